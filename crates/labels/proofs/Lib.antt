@@ -1,0 +1,4 @@
+pub mod Below
+pub mod Membership
+pub mod Words
+pub mod Endpoints

@@ -1,0 +1,3 @@
+pub mod Membership
+pub mod Sets
+pub mod Addresses

@@ -1,0 +1,64 @@
+// Sets of endpoints, and the endpoints of an address (document 01, "Marks and sets").
+ghost use mathlib.Core.Path.{_≡_};
+ghost use Rattle.labels.specs.Sets.{holds, within, only, empty, all};
+
+pub mod addresses;
+
+// Endpoints are 0 to 31.
+pub const LAST_ENDPOINT: u32 = 31;
+
+// A set of the 32 endpoints: bit a stands for endpoint a. Document 01 calls an endpoint a mark.
+pub struct EndpointSet {
+    pub bits: u32,
+}
+
+impl EndpointSet {
+    pub const EMPTY: EndpointSet = EndpointSet { bits: 0 };
+
+    pub const ALL: EndpointSet = EndpointSet { bits: 0xffff_ffff };
+
+    // Whether every endpoint of this set is in `other`.
+    pub fn within(self, other: EndpointSet) -> bool
+        ensures { λ r. ⌜ r ≡ within (self .bits) (other .bits) ⌝ }
+    {
+        self.bits & other.bits == self.bits
+    }
+
+    // Whether `endpoint` is in this set. An endpoint above 31 is in no set.
+    pub fn holds(self, endpoint: u32) -> bool
+        ensures { λ r. ⌜ r ≡ holds (self .bits) endpoint ⌝ }
+    {
+        if LAST_ENDPOINT < endpoint {
+            return false;
+        }
+        self.bits >> endpoint & 1 == 1
+    }
+
+    // The set of `endpoint` alone; empty where it is above 31. Said here too: the two constants are the definitions' sets.
+    pub fn only(endpoint: u32) -> EndpointSet
+        ensures singleton { λ r. ⌜ r .bits ≡ only endpoint ⌝ }
+        ensures constants { λ _. do ⌜ ((← ⟦EndpointSet::EMPTY.bits⟧ .entry) ≡ empty) × ((← ⟦EndpointSet::ALL.bits⟧ .entry) ≡ all) ⌝ }
+    {
+        if LAST_ENDPOINT < endpoint {
+            return EndpointSet::EMPTY;
+        }
+        EndpointSet {
+            bits: 1 << endpoint,
+        }
+    }
+}
+
+// The two questions for C and other languages: include/labels.h.
+#[no_mangle]
+pub extern "C" fn labels_within(a: u32, b: u32) -> bool
+    ensures { λ r. ⌜ r ≡ within a b ⌝ }
+{
+    EndpointSet { bits: a }.within(EndpointSet { bits: b })
+}
+
+#[no_mangle]
+pub extern "C" fn labels_holds(set: u32, endpoint: u32) -> bool
+    ensures { λ r. ⌜ r ≡ holds set endpoint ⌝ }
+{
+    EndpointSet { bits: set }.holds(endpoint)
+}
