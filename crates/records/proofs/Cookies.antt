@@ -1,0 +1,136 @@
+-- The loops over the eight keys: what remains to be done from a key on, with the laws of its first key and of the rest.
+use Prim.Native.Nat.{ℕ, zero, suc, _+_, _*_, _^_, _<_, _≤_}
+use native.Mathlib.Nat.{add-zero, zero-add, le-of-suc-le-suc, not-suc-le-zero}
+use native.Mathlib.Numerals.{add-one}
+use native.Mathlib.Omega.{arith}
+use mathlib.Core.Path.{_≡_, refl, sym, ap, _∙_}
+use mathlib.Core.Bool.{_&&_, and-true, and-assoc}
+use mathlib.Core.List.{List, [], _∷_, _++_, map, append-assoc, append-nil}
+use lib.Bits.{bitOr, or-zero-l, or-add-and, and-le-r}
+use lib.Dec.{eqb, ltb, eqb·suc-zero}
+use borrow.Author.Tests.{ne-eqb}
+use lib.ListN.{length, getD, take, drop, set, length-set}
+use lib.Seq.{drop-cons, drop-drop, take-suc-set, take-all, sets, length-sets}
+use Rattle.records.specs.Bytes.{bit, number, digits}
+use Rattle.records.specs.Layout.{widths, sum, join, split, fits}
+use Rattle.records.specs.Places.{cookieWidths}
+use Rattle.records.proofs.Digits.{length-digits}
+
+numbers : ℕ → ℕ → List ℕ
+numbers from zero = []
+numbers from (suc n) = from ∷ numbers (suc from) n
+
+map-at : (f : ℕ → ℕ) (n from k : ℕ) → k < n → getD (map f (numbers from n)) k 0 ≡ f (from + k)
+unfolding numbers
+map-at f zero from k l = absurd (not-suc-le-zero l)
+map-at f (suc n) from zero l = ap f (sym (add-zero from))
+map-at f (suc n) from (suc k) l = map-at f n (suc from) k (le-of-suc-le-suc l) ∙ ap f (omega arith)
+
+module _ (keys key : ℕ) (l : key < 8) where
+  -- the widths from a key on: its own, and those after it
+  pub widths-from : drop key (cookieWidths keys) ≡ 4 * bit keys key ∷ drop (suc key) (cookieWidths keys)
+  unfolding cookieWidths widths numbers
+  widths-from =
+      drop-cons (cookieWidths keys) key 0 l
+      ∙ ap (λ (w : ℕ). w ∷ drop (suc key) (cookieWidths keys))
+      (map-at (λ k. 4 * bit keys k) 8 0 key l ∙ ap (λ (k : ℕ). 4 * bit keys k) (zero-add key))
+
+  pub sum-from : sum (drop key (cookieWidths keys)) ≡ 4 * bit keys key + sum (drop (suc key) (cookieWidths keys))
+  sum-from = ap sum widths-from
+
+-- reading: the values so far, and those that are read from here on, are all of them
+pub record Reading (bytes : List ℕ) (at keys : ℕ) (values : List ℕ) (next key : ℕ) : Type 0 where
+  pub below : key ≤ 8
+  pub eight : length values ≡ 8
+  pub room : next + sum (drop key (cookieWidths keys)) ≤ length bytes
+  pub remains : take key values ++ split (drop key (cookieWidths keys)) (drop next bytes) ≡ split (cookieWidths keys) (drop at bytes)
+
+module _ (bytes : List ℕ) (at keys : ℕ) where
+  pub reading-begins : (values : List ℕ) → length values ≡ 8 → at + sum (cookieWidths keys) ≤ length bytes → Reading bytes at keys values at 0
+  reading-begins values e r = record { below = omega arith; eight = e; room = r; remains = refl }
+
+  pub reading-goes-on : (values : List ℕ) (next key v : ℕ) → key < 8 → Reading bytes at keys values next key
+      → v ≡ number (take (4 * bit keys key) (drop next bytes)) → Reading bytes at keys (set values key v) (next + 4 * bit keys key) (key + 1)
+  unfolding split
+  reading-goes-on values next key v l r e =
+      rw (add-one key) (record {
+        below = l;
+        eight = length-set values key v ∙ r .eight;
+        room = omega (arith, r .room, sum-from keys key l);
+        remains =
+            rw (take-suc-set values key v (rw (r .eight) l), e, append-assoc (take key values), ← drop-drop (4 * bit keys key) next bytes)
+            (rw (widths-from keys key l) at (r .remains));
+      })
+
+  pub reading-ends : (values : List ℕ) (next : ℕ) → Reading bytes at keys values next 8 → values ≡ split (cookieWidths keys) (drop at bytes)
+  unfolding split cookieWidths widths
+  reading-ends values next r = sym (append-nil (take 8 values) ∙ take-all 8 values (omega (arith, r .eight))) ∙ r .remains
+
+-- stores of a joined list are the stores of its parts, one after the other
+pub sets-append : (a b l : List ℕ) (i : ℕ) → sets l i (a ++ b) ≡ sets (sets l i a) (i + length a) b
+sets-append [] b l i = ap (λ (k : ℕ). sets l k b) (sym (add-zero i))
+sets-append (x ∷ a) b l i = sets-append a b (set l i x) (suc i) ∙ ap (λ (k : ℕ). sets (sets (set l i x) (suc i) a) k b) (omega arith)
+
+-- writing: what is written from here on makes the whole
+pub record Writing (before : List ℕ) (at keys : ℕ) (values out : List ℕ) (next key : ℕ) : Type 0 where
+  pub below : key ≤ 8
+  pub eight : length values ≡ 8
+  pub long : length out ≡ length before
+  pub room : at + sum (cookieWidths keys) ≤ length before
+  pub place : next + sum (drop key (cookieWidths keys)) ≡ at + sum (cookieWidths keys)
+  pub remains : sets out next (join (drop key (cookieWidths keys)) (drop key values)) ≡ sets before at (join (cookieWidths keys) values)
+
+module _ (before : List ℕ) (at keys : ℕ) (values : List ℕ) where
+  pub writing-begins : length values ≡ 8 → at + sum (cookieWidths keys) ≤ length before → Writing before at keys values before at 0
+  writing-begins e r = record { below = omega arith; eight = e; long = refl; room = r; place = refl; remains = refl }
+
+  pub writing-goes-on : (out after : List ℕ) (next key : ℕ) → key < 8 → Writing before at keys values out next key
+      → after ≡ sets out next (digits (4 * bit keys key) (getD values key 0)) → Writing before at keys values after (next + 4 * bit keys key) (key + 1)
+  unfolding join
+  writing-goes-on out after next key l w e =
+      rw (add-one key) (record {
+        below = l;
+        eight = w .eight;
+        long = rw e (length-sets out next (digits (4 * bit keys key) (getD values key 0)) ∙ w .long);
+        room = w .room;
+        place = omega (arith, w .place, sum-from keys key l);
+        remains =
+            rw e
+            (rw (sets-append (digits (4 * bit keys key) (getD values key 0)), length-digits)
+            at (rw (widths-from keys key l, drop-cons values key 0 (rw (w .eight) l)) at (w .remains)));
+      })
+
+  pub writing-ends : (out : List ℕ) (next : ℕ) → Writing before at keys values out next 8 → out ≡ sets before at (join (cookieWidths keys) values)
+  unfolding join cookieWidths widths
+  writing-ends out next w = w .remains
+
+-- two numbers joined by "or" are 0 just where both are
+pub or-zero : (a b : ℕ) → eqb (bitOr a b) 0 ≡ eqb a 0 && eqb b 0
+or-zero zero b = rw (or-zero-l b)
+or-zero (suc a) b = rw (eqb·suc-zero a) (ne-eqb (bitOr (suc a) b) 0 (λ e. omega (arith, or-add-and (suc a) b, and-le-r (suc a) b)))
+
+-- testing: what was met so far is 0 and the values from here on fit, just where all do
+pub record Testing (keys : ℕ) (values : List ℕ) (met key : ℕ) : Type 0 where
+  pub below : key ≤ 8
+  pub eight : length values ≡ 8
+  pub remains : eqb met 0 && fits (drop key (cookieWidths keys)) (drop key values) ≡ fits (cookieWidths keys) values
+
+module _ (keys : ℕ) (values : List ℕ) where
+  pub testing-begins : length values ≡ 8 → Testing keys values 0 0
+  testing-begins e = record { below = omega arith; eight = e; remains = refl }
+
+  pub testing-goes-on : (met key stray : ℕ) → key < 8 → Testing keys values met key
+      → eqb stray 0 ≡ ltb (getD values key 0) (256 ^ (4 * bit keys key)) → Testing keys values (bitOr met stray) (key + 1)
+  unfolding fits
+  testing-goes-on met key stray l t e =
+      rw (add-one key) (record {
+        below = l;
+        eight = t .eight;
+        remains =
+            rw (or-zero met stray, e, and-assoc (eqb met 0))
+            (rw (widths-from keys key l, drop-cons values key 0 (rw (t .eight) l)) at (t .remains));
+      })
+
+  pub testing-ends : (met : ℕ) → Testing keys values met 8 → eqb met 0 ≡ fits (cookieWidths keys) values
+  unfolding fits cookieWidths widths
+  testing-ends met t = sym (and-true (eqb met 0)) ∙ t .remains

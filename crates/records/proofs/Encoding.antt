@@ -1,0 +1,144 @@
+-- What encoding answers at each of its tests, that a carried record has room in the longest, and that its test is right.
+use Prim.Native.Nat.{ℕ, pred, _+_, _*_, _^_, _<_, _≤_}
+use native.Mathlib.Nat.{zero-add}
+use native.Mathlib.Omega.{arith}
+use mathlib.Core.Path.{_≡_, refl, sym, ap, ap₂, _∙_, subst}
+use mathlib.Core.Bool.{Bool, true, false, not, _&&_, _||_, and-assoc, and-true}
+use mathlib.Core.List.{List, [], _∷_, _++_, map}
+use lib.Bits.{bitOr}
+use lib.Dec.{T, eqb, leb, ltb, leb→le, eqb→eq}
+use lib.ListN.{length, drop}
+use lib.Seq.{sets, sets-eq}
+use store.Enc.{and-l, and-r}
+use borrow.Author.Tests.{lt-ltb, le-ltb}
+use Rattle.records.specs.declared.Direction.{Direction}
+use Rattle.records.specs.declared.Direction.the-variants.{Input, Request}
+use Rattle.records.specs.declared.Record.{Record}
+use Rattle.records.specs.Bytes.{bit}
+use Rattle.records.specs.Layout.{keyNumbers, maps, longest, widths, sum, fits, values, size}
+use Rattle.records.specs.Codec.{accepted, noRoom, malformed, isOneOf, keysMissing, carriable, bytesOf, writeRefusal, encoded}
+use Rattle.records.specs.Places.{frontWidths, cookieWidths, backWidths}
+use Rattle.records.proofs.Joining.{length-join}
+use Rattle.records.proofs.Cookies.{or-zero}
+use Rattle.records.proofs.Writing.{widths-split, values-split, size-split, front-sum, front-count, cookie-count}
+
+pub counted : (r : Record) → length (values r) ≡ length (widths (r .map) (r .keys))
+unfolding values widths
+counted r = refl
+
+pub bytes-length : (r : Record) → length (bytesOf r) ≡ size (r .map) (r .keys)
+unfolding bytesOf size
+bytes-length r = omega (arith, length-join (widths (r .map) (r .keys)) (values r) (counted r))
+
+-- ---- the longest record
+
+cookies-room : (keys : ℕ) (ks : List ℕ) → sum (map (λ k. 4 * bit keys k) ks) ≤ 4 * length ks
+cookies-room keys [] = omega arith
+cookies-room keys (k ∷ ks) = omega (arith, cookies-room keys ks)
+
+within : ℕ → ℕ → Bool
+within n m = leb (1 + sum (frontWidths m) + 32 + sum (backWidths m)) n
+
+every : (ℕ → Bool) → List ℕ → Bool
+every f [] = true
+every f (m ∷ ms) = f m && every f ms
+
+all-within : (d : Direction) → T (every (within (longest d)) (maps d))
+unfolding every within frontWidths backWidths widths longest
+all-within Input = tt
+all-within Request = tt
+
+either-way : {P : Type 0} (x y : Bool) → (T x → P) → (T y → P) → T (x || y) → P
+either-way true y f g t = f tt
+either-way false y f g t = g t
+
+every-at : (f : ℕ → Bool) (ms : List ℕ) (m : ℕ) → T (every f ms) → T (isOneOf m ms) → T (f m)
+unfolding every isOneOf
+every-at f [] m h o = absurd o
+every-at f (k ∷ ms) m h o =
+    either-way (eqb m k) (isOneOf m ms) (λ e. subst (λ (x : ℕ). T (f x)) (sym (eqb→eq m k e)) (and-l (f k) (every f ms) h))
+    (λ o′. every-at f ms m (and-r (f k) (every f ms) h) o′) o
+
+pub size-longest : (d : Direction) (m keys : ℕ) → T (isOneOf m (maps d)) → size m keys ≤ longest d
+unfolding within cookieWidths widths
+size-longest d m keys h =
+    let l = leb→le (1 + sum (frontWidths m) + 32 + sum (backWidths m)) (longest d) (every-at (within (longest d)) (maps d) m (all-within d) h) in
+    omega (arith, l, size-split m keys, front-sum m keys, cookies-room keys keyNumbers)
+
+-- ---- the test of the fields
+
+fits-append : (ws us vs xs : List ℕ) → length vs ≡ length ws → fits (ws ++ us) (vs ++ xs) ≡ fits ws vs && fits us xs
+unfolding fits
+fits-append [] us [] xs e = refl
+fits-append [] us (v ∷ vs) xs e = absurd (omega arith)
+fits-append (w ∷ ws) us [] xs e = absurd (omega arith)
+fits-append (w ∷ ws) us (v ∷ vs) xs e = rw (fits-append ws us vs xs (ap pred e)) (sym (and-assoc (ltb v (256 ^ w)) (fits ws vs) (fits us xs)))
+
+module _ (r : Record) (eight : length (r .cookies) ≡ 8) where
+  abbrev m : ℕ
+  m = r .map
+
+  in-three : fits (widths m (r .keys)) (values r)
+      ≡ fits (frontWidths m) (r .url ∷ r .connection ∷ r .keys ∷ [])
+      && (fits (cookieWidths (r .keys)) (r .cookies) && fits (backWidths m) (r .script ∷ r .value ∷ r .target ∷ []))
+  in-three =
+      rw (widths-split m (r .keys), values-split r eight, fits-append (frontWidths m) (cookieWidths (r .keys) ++ backWidths m) (r .url ∷ r .connection ∷ r .keys ∷ []) (r .cookies ++ (r .script ∷ r .value ∷ r .target ∷ [])) (front-count r eight), fits-append (cookieWidths (r .keys)) (backWidths m) (r .cookies) (r .script ∷ r .value ∷ r .target ∷ []) (cookie-count r eight))
+
+  pub all-fit : (u c k cs s v t : ℕ)
+      → eqb u 0 ≡ ltb (r .url) (256 ^ (1 * bit m 0))
+      → eqb c 0 ≡ ltb (r .connection) (256 ^ (1 * bit m 1))
+      → eqb k 0 ≡ ltb (r .keys) (256 ^ (1 * bit m 2))
+      → eqb cs 0 ≡ fits (cookieWidths (r .keys)) (r .cookies)
+      → eqb s 0 ≡ ltb (r .script) (256 ^ (1 * bit m 3))
+      → eqb v 0 ≡ ltb (r .value) (256 ^ (4 * bit m 4))
+      → eqb t 0 ≡ ltb (r .target) (256 ^ (1 * bit m 5))
+      → eqb (bitOr (bitOr (bitOr (bitOr (bitOr (bitOr u c) k) cs) s) v) t) 0 ≡ fits (widths m (r .keys)) (values r)
+  unfolding fits frontWidths backWidths widths
+  all-fit u c k cs s v t eu ec ek ecs es ev et = rw in-three (simp (or-zero, eu, ec, ek, ecs, es, ev, et, and-assoc, and-true))
+
+-- ---- the answers
+
+-- the three tests of what is carriable
+module _ (d : Direction) (r : Record) (ok : T (carriable d r)) where
+  pub known : T (isOneOf (r .map) (maps d))
+  unfolding carriable
+  known = and-l (isOneOf (r .map) (maps d)) (not (keysMissing (r .map) (r .keys)) && fits (widths (r .map) (r .keys)) (values r)) ok
+
+  others : T (not (keysMissing (r .map) (r .keys)) && fits (widths (r .map) (r .keys)) (values r))
+  unfolding carriable
+  others = and-r (isOneOf (r .map) (maps d)) (not (keysMissing (r .map) (r .keys)) && fits (widths (r .map) (r .keys)) (values r)) ok
+
+  pub keyed : T (not (keysMissing (r .map) (r .keys)))
+  keyed = and-l (not (keysMissing (r .map) (r .keys))) (fits (widths (r .map) (r .keys)) (values r)) others
+
+  pub fitting : T (fits (widths (r .map) (r .keys)) (values r))
+  fitting = and-r (not (keysMissing (r .map) (r .keys))) (fits (widths (r .map) (r .keys)) (values r)) others
+
+module _ (d : Direction) (r : Record) (out : List ℕ) where
+  pub no-room : length out < longest d → record { number = noRoom; length = 0; buffer = out } ≡ encoded d r out
+  unfolding encoded writeRefusal
+  no-room l = rw (lt-ltb (length out) (longest d) l)
+
+  pub not-carriable : longest d ≤ length out → carriable d r ≡ false → record { number = malformed; length = 0; buffer = out } ≡ encoded d r out
+  unfolding encoded writeRefusal
+  not-carriable l e = rw (le-ltb (length out) (longest d) l, e)
+
+  pub no-write-refusal : longest d ≤ length out → carriable d r ≡ true → writeRefusal d r out ≡ accepted
+  unfolding writeRefusal
+  no-write-refusal l e = rw (le-ltb (length out) (longest d) l, e)
+
+  pub encoded-accepted : writeRefusal d r out ≡ accepted
+      → encoded d r out ≡ record { number = accepted; length = length (bytesOf r); buffer = bytesOf r ++ drop (length (bytesOf r)) out }
+  unfolding encoded
+  encoded-accepted e = rw e
+
+  pub written-whole : (n : ℕ) (after : List ℕ) → longest d ≤ length out → carriable d r ≡ true → n ≡ size (r .map) (r .keys) → after ≡ sets out 0 (bytesOf r)
+      → record { number = accepted; length = n; buffer = after } ≡ encoded d r out
+  written-whole n after l e en ea =
+      let fit : 0 + length (bytesOf r) ≤ length out =
+      omega (arith, size-longest d (r .map) (r .keys) (known d r (subst T (sym e) tt)), bytes-length r) in
+      let same-length : n ≡ length (bytesOf r) = en ∙ sym (bytes-length r) in
+      let whole : after ≡ bytesOf r ++ drop (length (bytesOf r)) out =
+      ea ∙ sets-eq (bytesOf r) out 0 fit ∙ ap (λ (k : ℕ). bytesOf r ++ drop k out) (zero-add (length (bytesOf r))) in
+      ap₂ (λ (k : ℕ) (b : List ℕ). record { number = accepted; length = k; buffer = b }) same-length whole
+      ∙ sym (encoded-accepted (no-write-refusal l e))

@@ -1,0 +1,11 @@
+pub mod Digits
+pub mod Slices
+pub mod Starts
+pub mod Maps
+pub mod Joining
+pub mod Cookies
+pub mod Values
+pub mod Writing
+pub mod Decoding
+pub mod Encoding
+pub mod RoundTrips

@@ -1,0 +1,22 @@
+-- `bytes::word` meets its contract.
+use mathlib.Core.Path.{_≡_, sym}
+use native.Mathlib.Omega.{arith}
+use denote.Ref.{now}
+use Rattle.records.proofs.Slices.{number-none, number-four}
+use borrow.Author.Needs.{needs}
+use Rattle.records.proofs.bytes.word.Statement.{statement}
+use Rattle.records.proofs.bytes.word.Tie as tie
+
+returns : tie.Need-returns
+returns c = let a = c .before .before .args in rw (c .if1 .taken) (sym (number-none (now (a .bytes)) (a .at)))
+
+returns-2 : tie.Need-returns-2
+returns-2 c =
+    let a = c .before .before .before .before .before .before .before .before .before .before .args in
+    let one : a .on ≡ 1 = omega (arith, c .before .before .before .before .before .before .before .before .before .before) in
+    let four = number-four (now (a .bytes)) (a .at) (omega (arith, c .before .before .before .before .before .before .before .before .before .before)) in
+    rw one (omega (arith, four))
+
+pub word-spec : {M : Type 1} → statement M
+word-spec =
+    tie.close (tie.spec returns (λ c. search needs) (λ c κs. search needs) (λ c. search needs) (λ c. search needs) (λ c. search needs) (λ c κs. search needs) (λ c. search needs) (λ c. search needs) (λ c. search needs) (λ c. search needs) (λ c κs. search needs) (λ c. search needs) (λ c. search needs) (λ c. search needs) (λ c. search needs) (λ c κs. search needs) (λ c. search needs) returns-2)

@@ -1,0 +1,145 @@
+-- Decoding and encoding, both by the one layout (document 01, "Records").
+use Prim.Native.Nat.{ℕ, zero, suc, _+_}
+use mathlib.Core.Bool.{Bool, false, not, _&&_, _||_, cond}
+use mathlib.Core.List.{List, [], _∷_, _++_, map}
+use lib.Dec.{ltb, eqb}
+use lib.ListN.{length, getD, take, drop, replicate}
+use Rattle.records.specs.declared.Direction.{Direction}
+use Rattle.records.specs.declared.Record.{Record}
+use Rattle.records.specs.declared.Decoded.{Decoded}
+use Rattle.records.specs.declared.Encoded.{Encoded}
+use Rattle.records.specs.Bytes.{bit}
+use Rattle.records.specs.Layout.{cookiesBit, maps, widths, size, longest, join, split, fits, values, fromValues}
+
+-- the numbers that decoding and encoding answer
+abbrev pub accepted : ℕ
+accepted = 0
+
+abbrev pub noRoom : ℕ
+noRoom = 1
+
+abbrev pub malformed : ℕ
+malformed = 5
+
+-- the fields of a refused read: each is 0, the map too
+abbrev pub blank : Record
+blank = record { map = 0; url = 0; connection = 0; keys = 0; cookies = replicate 8 0; script = 0; value = 0; target = 0 }
+
+-- what a refused read answers
+abbrev pub refused : Decoded
+refused = record { number = malformed; fields = blank }
+
+unfoldable pub isOneOf : ℕ → List ℕ → Bool
+isOneOf n [] = false
+isOneOf n (m ∷ ms) = eqb n m || isOneOf n ms
+
+-- a record with cookies has a key map that is not zero
+unfoldable pub keysMissing : ℕ → ℕ → Bool
+keysMissing m keys = eqb (bit m cookiesBit) 1 && eqb keys 0
+
+-- ---- decoding
+
+abbrev pub mapOf : List ℕ → ℕ
+mapOf bytes = getD bytes 0 0
+
+-- The key map comes before all that goes by it, so it is read as if no key were set; 0 where the map carries none or the byte is
+-- not there.
+unfoldable pub keysOf : List ℕ → ℕ
+keysOf bytes = fromValues (mapOf bytes) (split (widths (mapOf bytes) 0) (drop 1 bytes)) .keys
+
+-- what is refused: the empty record, and a map that the direction does not have; a key map of zero; another length than the maps call for
+unfoldable pub mapUnknown : Direction → List ℕ → Bool
+mapUnknown d bytes = eqb (length bytes) 0 || not (isOneOf (mapOf bytes) (maps d))
+
+unfoldable pub keysZero : List ℕ → Bool
+keysZero bytes = keysMissing (mapOf bytes) (keysOf bytes)
+
+unfoldable pub lengthOther : List ℕ → Bool
+lengthOther bytes = not (eqb (length bytes) (size (mapOf bytes) (keysOf bytes)))
+
+-- the first that fits
+unfoldable pub readRefusal : Direction → List ℕ → ℕ
+readRefusal d bytes =
+    cond (mapUnknown d bytes) malformed
+    (cond (keysZero bytes) malformed
+    (cond (lengthOther bytes) malformed
+    accepted))
+
+unfoldable pub fieldsOf : List ℕ → Record
+fieldsOf bytes = fromValues (mapOf bytes) (split (widths (mapOf bytes) (keysOf bytes)) (drop 1 bytes))
+
+-- document 01: the reader
+unfoldable pub decoded : Direction → List ℕ → Decoded
+decoded d bytes = record { number = readRefusal d bytes; fields = cond (eqb (readRefusal d bytes) accepted) (fieldsOf bytes) blank }
+
+-- ---- encoding
+
+-- fields that a map of the direction carries, and no other field that is not 0
+unfoldable pub carriable : Direction → Record → Bool
+carriable d r =
+    isOneOf (r .map) (maps d)
+    && (not (keysMissing (r .map) (r .keys))
+    && fits (widths (r .map) (r .keys)) (values r))
+
+unfoldable pub bytesOf : Record → List ℕ
+bytesOf r = r .map ∷ join (widths (r .map) (r .keys)) (values r)
+
+-- what encoding answers, with the buffer after it
+pub record Written : Type 0 where
+  pub number : ℕ
+  pub length : ℕ
+  pub buffer : List ℕ
+
+-- an answer of the code with the buffer that it leaves
+abbrev pub written : Encoded → List ℕ → Written
+written answer out = record { number = answer .number; length = answer .length; buffer = out }
+
+-- the first refusal that fits: a buffer below the longest record, however short this one is; fields that no map carries
+unfoldable pub writeRefusal : Direction → Record → List ℕ → ℕ
+writeRefusal d r out = cond (ltb (length out) (longest d)) noRoom (cond (carriable d r) accepted malformed)
+
+-- document 01: the writer
+unfoldable pub encoded : Direction → Record → List ℕ → Written
+encoded d r out =
+    cond (eqb (writeRefusal d r out) accepted)
+    (record { number = accepted; length = length (bytesOf r); buffer = bytesOf r ++ drop (length (bytesOf r)) out })
+    (record { number = writeRefusal d r out; length = 0; buffer = out })
+
+-- ---- records one after another
+
+-- what is read off the front of some bytes, and what is left of them; nothing is left where they were wholly records
+pub record Run : Type 0 where
+  pub records : List Record
+  pub left : List ℕ
+
+-- the first record's bytes: as many as its maps call for
+unfoldable pub firstRecord : List ℕ → List ℕ
+firstRecord bytes = take (size (mapOf bytes) (keysOf bytes)) bytes
+
+unfoldable pub readAtMost : ℕ → Direction → List ℕ → Run
+readAtMost zero d bytes = record { records = []; left = bytes }
+readAtMost (suc n) d bytes =
+    let first = decoded d (firstRecord bytes) in
+    let rest = readAtMost n d (drop (length (firstRecord bytes)) bytes) in
+    let found : Run = record { records = first .fields ∷ rest .records; left = rest .left } in
+    cond (eqb (first .number) accepted) found (record { records = []; left = bytes })
+
+-- the records that bytes are, one after another: no more than there are bytes, so that many steps are enough
+unfoldable pub readRun : Direction → List ℕ → Run
+readRun d bytes = readAtMost (length bytes) d bytes
+
+-- what two writes come to, the second in the part of the buffer that follows the first
+abbrev pub followedBy : Written → Written → Written
+followedBy first rest = record {
+  number = rest .number;
+  length = first .length + rest .length;
+  buffer = take (first .length) (first .buffer) ++ rest .buffer;
+}
+
+-- records written one after another, each into the part of the buffer that follows the last; the first that is refused ends it
+unfoldable pub writeRun : Direction → List Record → List ℕ → Written
+writeRun d [] out = record { number = accepted; length = 0; buffer = out }
+writeRun d (r ∷ rs) out =
+    let first = encoded d r out in
+    let both = followedBy first (writeRun d rs (drop (first .length) (first .buffer))) in
+    cond (eqb (first .number) accepted) both first

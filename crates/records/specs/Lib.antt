@@ -1,0 +1,5 @@
+pub mod Bytes
+pub mod Layout
+pub mod Codec
+pub mod RoundTrips
+pub mod Places

@@ -1,0 +1,33 @@
+-- Where fields begin and how many bytes groups of them have, for the contracts of the functions within the crate.
+-- Decoding and encoding are defined without this file.
+use Prim.Native.Nat.{ℕ, _+_}
+use mathlib.Core.List.{List}
+use lib.ListN.{take, drop}
+use Rattle.records.specs.declared.places.Places.{Places}
+use Rattle.records.specs.Layout.{widths, sum}
+
+-- the place where field i begins: after the map byte and the fields before it
+unfoldable pub start : ℕ → ℕ → ℕ → ℕ
+start i m keys = 1 + sum (take i (widths m keys))
+
+-- the places of a record's fields, as the code keeps them: field 0, the URL, is at 1
+unfoldable pub placesOf : ℕ → ℕ → Places
+placesOf m keys = record {
+  connection = start 1 m keys;
+  keys = start 2 m keys;
+  cookies = start 3 m keys;
+  script = start 11 m keys;
+  value = start 12 m keys;
+  target = start 13 m keys;
+  end = start 14 m keys;
+}
+
+-- the bytes of the fields before the cookie values, of those values, and of the fields after them
+unfoldable pub frontWidths : ℕ → List ℕ
+frontWidths m = take 3 (widths m 0)
+
+unfoldable pub cookieWidths : ℕ → List ℕ
+cookieWidths keys = take 8 (drop 3 (widths 0 keys))
+
+unfoldable pub backWidths : ℕ → List ℕ
+backWidths m = drop 11 (widths m 0)

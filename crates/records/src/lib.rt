@@ -1,0 +1,121 @@
+// Records: the wire format of what the monitor is fed and what it sends (document 01, "Records").
+ghost use mathlib.Core.Path.{_≡_};
+ghost use Rattle.records.specs.Codec.{refused, decoded, written, encoded};
+
+mod bytes;
+mod checks;
+mod fields;
+mod places;
+
+use checks::carriable;
+use checks::is_map;
+use checks::keys_missing;
+use checks::longest;
+use fields::key_map;
+use fields::read;
+use fields::write;
+use places::Places;
+
+// The numbers of an answer.
+pub const ACCEPTED: u32 = 0;
+
+pub const NO_ROOM: u32 = 1;
+
+pub const MALFORMED: u32 = 5;
+
+// Whether a record is an input of the monitor or a request that it sends.
+pub enum Direction {
+    Input,
+    Request,
+}
+
+// The fields of a record; one that the map does not carry is 0. Document 01 calls a connection a lane.
+pub struct Record {
+    pub map: u8,
+    pub url: u8,
+    pub connection: u8,
+    // bit k is set where key k has a value in `cookies`
+    pub keys: u8,
+    pub cookies: [u32; 8],
+    pub script: u8,
+    pub value: u32,
+    pub target: u8,
+}
+
+// What decoding answers: 0 and the fields, or 5 and every field 0.
+pub struct Decoded {
+    pub number: u32,
+    pub fields: Record,
+}
+
+// What encoding answers: 0 and the bytes written, or a refusal and 0.
+pub struct Encoded {
+    pub number: u32,
+    pub length: usize,
+}
+
+fn refused() -> Decoded
+    ensures { λ r. ⌜ r ≡ refused ⌝ }
+{
+    Decoded {
+        number: MALFORMED,
+        fields: Record {
+            map: 0,
+            url: 0,
+            connection: 0,
+            keys: 0,
+            cookies: [0; 8],
+            script: 0,
+            value: 0,
+            target: 0,
+        },
+    }
+}
+
+// Reads a record: 0 and its fields, or 5 where it is malformed.
+pub fn decode(direction: Direction, bytes: &[u8]) -> Decoded
+    ensures { λ r. ⌜ r ≡ decoded direction (now (bytes .entry)) ⌝ }
+{
+    if bytes.len() == 0 {
+        return refused();
+    }
+    let map = bytes[0];
+    if !is_map(direction, map) {
+        return refused();
+    }
+    let keys = key_map(map, bytes);
+    if keys_missing(map, keys) {
+        return refused();
+    }
+    if bytes.len() != Places::of(map, keys).end {
+        return refused();
+    }
+    Decoded {
+        number: ACCEPTED,
+        fields: read(map, keys, bytes),
+    }
+}
+
+// Writes a record at the front of a buffer: 0 and its length; 1 where the buffer is shorter than the longest record
+// of the direction; 5 where no map carries the fields. A refusal changes no byte.
+pub fn encode(direction: Direction, fields: Record, out: &mut [u8]) -> Encoded
+    ensures { λ r. ⌜ written r (now (out .exit)) ≡ encoded direction fields (now (out .entry)) ⌝ }
+{
+    if out.len() < longest(direction) {
+        return Encoded {
+            number: NO_ROOM,
+            length: 0,
+        };
+    }
+    if !carriable(direction, fields) {
+        return Encoded {
+            number: MALFORMED,
+            length: 0,
+        };
+    }
+    let length = write(fields, out);
+    Encoded {
+        number: ACCEPTED,
+        length,
+    }
+}
