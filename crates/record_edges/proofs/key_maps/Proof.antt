@@ -1,0 +1,16 @@
+-- `record_edges::key_maps` is safe and ends: its indices stay within what it reads and writes.
+use borrow.Author.Needs.{needs}
+use Prim.Native.Nat.{_-_, _≤_}
+use mathlib.Core.Path.{_≡_}
+use Rattle.record_edges.proofs.key_maps.Statement.{statement}
+use Rattle.record_edges.proofs.key_maps.Tie as tie
+
+abbrev Inv-loop : tie.InvT-loop
+Inv-loop direction map length bytes₀ n₀ keys₀ bytes n keys = (keys ≤ 256) × (n ≤ keys) × (lib.ListN.length bytes ≡ 46)
+
+abbrev μ-loop : tie.MeasureT-loop
+μ-loop direction map length bytes₀ n₀ keys₀ bytes n keys = 256 - keys
+
+pub key-maps-spec : {M : Type 1} → statement M
+key-maps-spec =
+    tie.close (tie.spec Inv-loop μ-loop (λ c. search needs) (λ c. search needs) (λ c. search needs) (λ c. search needs) (λ c. search needs) (λ c κs. search needs) (λ c. search needs) (λ c. search needs) (λ c. search needs) (λ c. search needs) (λ c. search needs))

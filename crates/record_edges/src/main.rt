@@ -1,0 +1,209 @@
+// Runs the edges of the record format through decode and encode; what it writes is held to the file stdout.
+// First every map byte at every length from 0 to 45: for each at which a record is accepted, with how many of the 256 bytes
+// where a key map would be it is accepted and written back at that length. Then the records of standard input, whose
+// comments say how they are written.
+ghost use Prim.Native.Nat.{_<_, _≤_};
+use libc::STDIN_FILENO;
+use libc::STDOUT_FILENO;
+use records::Direction;
+use records::Record;
+
+fn main() {
+    print(b"input\n");
+    sweep(Direction::Input);
+    print(b"request\n");
+    sweep(Direction::Request);
+    let mut text = io::buffer();
+    let n = io::read_full(STDIN_FILENO, &mut text);
+    lines(&text[..n]);
+}
+
+fn print(bytes: &[u8]) {
+    io::write_all(STDOUT_FILENO, bytes);
+}
+
+fn print_number(n: u32) {
+    print(b" ");
+    io::print_decimal(STDOUT_FILENO, n as u64);
+}
+
+// ---- every map at every length
+
+// 1 where the first `length` bytes are a record that is written back at that length.
+fn goes_back(direction: Direction, bytes: &[u8], length: usize) -> u32
+    ensures { λ r. ⌜ r ≤ 1 ⌝ }
+{
+    if bytes.len() < length {
+        return 0;
+    }
+    let read = records::decode(direction, &bytes[0..length]);
+    if read.number != 0 {
+        return 0;
+    }
+    let fields = read.fields;
+    let mut out = [0u8; 46];
+    let back = records::encode(direction, fields, &mut out);
+    if back.length == length { 1 } else { 0 }
+}
+
+fn key_maps(direction: Direction, map: u8, length: usize) -> u32 {
+    let mut bytes = [0x11; 46];
+    bytes[0] = map;
+    let mut n = 0u32;
+    for keys in 0..256usize {
+        bytes[3] = (keys % 256) as u8;
+        n += goes_back(direction, &bytes, length);
+    }
+    n
+}
+
+fn row(map: u32, length: usize, n: u32)
+    requires { ⌜ length < 46 ⌝ }
+{
+    if n != 0 {
+        print_number(map);
+        print_number(length as u32);
+        print_number(n);
+        print(b"\n");
+    }
+}
+
+fn with_map(direction: Direction, map: u8) {
+    for length in 0..46usize {
+        row(map as u32, length, key_maps(direction, map, length));
+    }
+}
+
+fn sweep(direction: Direction) {
+    for map in 0..256usize {
+        with_map(direction, (map % 256) as u8);
+    }
+}
+
+// ---- the records of standard input
+
+fn lines(text: &[u8]) {
+    let mut start = 0;
+    let mut at = 0;
+    while at < text.len() {
+        if text[at] == b'\n' {
+            line(&text[start..at]);
+            start = at + 1;
+        }
+        at += 1;
+    }
+}
+
+// A line is shown again, with what it comes to.
+fn line(text: &[u8]) {
+    print(text);
+    let bytes = from_hex(text);
+    answer(at(text, 0), &bytes, text.len() / 3);
+    print(b"\n");
+}
+
+fn answer(kind: u8, bytes: &[u8], n: usize) {
+    match kind {
+        b'i' => decoded(Direction::Input, bytes, n),
+        b'r' => decoded(Direction::Request, bytes, n),
+        b'I' => tried(Direction::Input, bytes),
+        b'R' => tried(Direction::Request, bytes),
+        _ => print(b""),
+    }
+}
+
+fn at(bytes: &[u8], i: usize) -> u8 {
+    if i < bytes.len() { bytes[i] } else { 0 }
+}
+
+fn nibble(c: u8) -> u8
+    ensures { λ r. ⌜ r < 16 ⌝ }
+{
+    if c < b'a' { c % 16 } else { (c % 16 + 9) % 16 }
+}
+
+// The bytes of a line: a letter, and then a space and two digits for each.
+fn from_hex(text: &[u8]) -> [u8; 46] {
+    let mut bytes = [0u8; 46];
+    for i in 0..46usize {
+        bytes[i] = nibble(at(text, 3 * i + 2)) * 16 + nibble(at(text, 3 * i + 3));
+    }
+    bytes
+}
+
+// Reads the first n of the bytes, shows the answer, and where they are accepted writes them back.
+fn decoded(d: Direction, bytes: &[u8], n: usize) {
+    if bytes.len() < n {
+        return;
+    }
+    let answer = records::decode(d, &bytes[0..n]);
+    let fields = answer.fields;
+    print(b" :");
+    print_number(answer.number);
+    print(b" :");
+    print_fields(fields);
+    if answer.number == 0 {
+        encoded(d, fields, 42);
+    }
+}
+
+// The map, URL, connection, key map, cookie values, script, value and target.
+fn print_fields(r: Record) {
+    let cookies = r.cookies;
+    print_number(r.map as u32);
+    print_number(r.url as u32);
+    print_number(r.connection as u32);
+    print_number(r.keys as u32);
+    for key in 0..8usize {
+        print_number(cookies[key]);
+    }
+    print_number(r.script as u32);
+    print_number(r.value);
+    print_number(r.target as u32);
+}
+
+// Encodes a record with URL 1 and connection 2 whose other fields, and room, the line gives.
+fn tried(d: Direction, b: &[u8]) {
+    let first = wide(at(b, 3));
+    let last = wide(at(b, 4));
+    let fields = Record {
+        map: at(b, 1),
+        url: 1,
+        connection: 2,
+        keys: at(b, 2),
+        cookies: [first, 0, 0, 0, 0, 0, 0, last],
+        script: at(b, 5),
+        value: wide(at(b, 6)),
+        target: at(b, 7),
+    };
+    encoded(d, fields, at(b, 0) as usize);
+}
+
+// Writes the fields into the first `room` bytes of a buffer of 44 that are all 238, and shows the answer and the buffer after.
+fn encoded(d: Direction, r: Record, room: usize) {
+    let mut space = [238; 44];
+    encode_within(d, r, &mut space, room);
+}
+
+fn encode_within(d: Direction, r: Record, space: &mut [u8], room: usize) {
+    if space.len() < room {
+        return;
+    }
+    let answer = records::encode(d, r, &mut space[0..room]);
+    print(b"\n ");
+    print_number(answer.number);
+    print(b" ");
+    io::print_decimal(STDOUT_FILENO, answer.length as u64);
+    print(b" :");
+    print_bytes(space);
+}
+
+fn print_bytes(bytes: &[u8]) {
+    for i in 0..bytes.len() {
+        print_number(wide(bytes[i]));
+    }
+}
+
+fn wide(b: u8) -> u32 {
+    b as u32
+}
