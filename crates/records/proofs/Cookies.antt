@@ -46,9 +46,6 @@ pub record Reading (bytes : List ℕ) (at keys : ℕ) (values : List ℕ) (next 
   pub remains : take key values ++ split (drop key (cookieWidths keys)) (drop next bytes) ≡ split (cookieWidths keys) (drop at bytes)
 
 module _ (bytes : List ℕ) (at keys : ℕ) where
-  pub reading-begins : (values : List ℕ) → length values ≡ 8 → at + sum (cookieWidths keys) ≤ length bytes → Reading bytes at keys values at 0
-  reading-begins values e r = record { below = omega arith; eight = e; room = r; remains = refl }
-
   pub reading-goes-on : (values : List ℕ) (next key v : ℕ) → key < 8 → Reading bytes at keys values next key
       → v ≡ number (take (4 * bit keys key) (drop next bytes)) → Reading bytes at keys (set values key v) (next + 4 * bit keys key) (key + 1)
   unfolding split
