@@ -1,4 +1,4 @@
--- What encoding answers at each of its tests, that a carried record has room in the longest, and that its test is right.
+-- What encoding answers at each of its tests. No record is longer than the longest, and the code's test of the fields is the definition's.
 use Prim.Native.Nat.{ℕ, pred, _+_, _*_, _^_, _<_, _≤_}
 use native.Mathlib.Nat.{zero-add}
 use native.Mathlib.Omega.{arith}

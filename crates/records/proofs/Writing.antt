@@ -35,6 +35,18 @@ unfolding join
 three l l1 l2 l3 i o p q r s a b c x y z eo ep eq e1 er e2 es e3 =
     rw (← eo, ← ep, ← eq, append-nil (digits q z), sets-append (digits o x) (digits p y ++ digits q z) l i, length-digits o x, sets-append (digits p y) (digits q z) (sets l i (digits o x)) (i + o), length-digits p y, e3, es, e2, er, e1)
 
+-- where there is room for all three, there is room for each; n, m and k are lengths of the buffer before each is written
+module _ (i a b c n o : ℕ) (room : i + sum (a ∷ b ∷ c ∷ []) ≤ n) (eo : o ≡ a) where
+  pub first-room : i + o ≤ n
+  first-room = omega arith
+
+  module _ (p r m : ℕ) (ep : p ≡ b) (er : r ≡ i + o) (em : m ≡ n) where
+    pub second-room : r + p ≤ m
+    second-room = omega arith
+
+    pub third-room : (q s k : ℕ) → q ≡ c → s ≡ r + p → k ≡ m → s + q ≤ k
+    third-room q s k eq es ek = omega arith
+
 -- ---- the whole record: what comes before the cookie values, those values, and what comes after them
 sum-append : (a b : List ℕ) → sum (a ++ b) ≡ sum a + sum b
 sum-append [] b = sym (zero-add (sum b))

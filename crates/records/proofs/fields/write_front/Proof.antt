@@ -1,10 +1,13 @@
 -- `fields::write_front` meets its contract: its three fields are written one after another.
+use Prim.Native.Nat.{_+_, _≤_}
+use mathlib.Core.List.{[], _∷_}
 use mathlib.Core.Path.{_∙_}
 use native.Mathlib.Omega.{arith}
 use denote.Ref.{now}
-use lib.ListN.{set, length-set}
+use lib.ListN.{length, set, length-set}
 use Rattle.records.specs.Bytes.{bit}
-use Rattle.records.proofs.Writing.{front-widths, front-end, three}
+use Rattle.records.specs.Layout.{sum}
+use Rattle.records.proofs.Writing.{front-widths, front-end, first-room, second-room, third-room, three}
 use borrow.Author.Needs.{needs}
 use Rattle.records.proofs.fields.write_front.Statement.{statement}
 use Rattle.records.proofs.fields.write_front.Tie as tie
@@ -12,23 +15,35 @@ use Rattle.records.proofs.fields.write_front.Tie as tie
 slice-write-out : tie.Need-slice-write-out
 slice-write-out c = let a = c .before .args in omega (arith, front-end (a .map) (a .keys), c .before .pre)
 
+-- room for the three after the map byte, by their widths
+room : (s : tie.Start) → let a = s .args in 1 + sum (bit (a .map) 0 ∷ bit (a .map) 1 ∷ bit (a .map) 2 ∷ []) ≤ length (now (a .out))
+room s = omega (arith, front-end (s .args .map) (s .args .keys), s .pre)
+
 put-byte-requires : tie.Need-put-byte-requires
 put-byte-requires c κs =
     let s = c .before .before .before in
-    (c .bit .ensures .1, simp length-set (omega (arith, front-end (s .args .map) (s .args .keys), s .pre, c .bit .ensures .0)))
+    (c .bit .ensures .1, simp length-set (first-room 1 _ _ _ _ (c .bit .result) (room s) (c .bit .ensures .0)))
 
 put-byte-requires-2 : tie.Need-put-byte-requires-2
 put-byte-requires-2 c κs =
     let s = c .before .before .before .before .before .before .before .before in
     let put = c .before .before .before .before .put-byte in
-    (c .bit2 .ensures .1, omega (arith, front-end (s .args .map) (s .args .keys), s .pre, c .before .before .before .before .before .bit .ensures .0, c .bit2 .ensures .0, put .ensures .0, simp length-set at (put .kept .0)))
+    let on = c .before .before .before .before .before .bit in (
+      c .bit2 .ensures .1,
+      second-room 1 _ _ _ _ (on .result) (room s) (on .ensures .0) (c .bit2 .result) (put .result) _ (c .bit2 .ensures .0) (put .ensures .0) (simp length-set at (put .kept .0)),
+    )
 
 put-byte-requires-3 : tie.Need-put-byte-requires-3
 put-byte-requires-3 c κs =
     let s = c .before .before .before .before .before .before .before .before .before .before .before .before .before in
     let put = c .before .before .before .before .before .before .before .before .before .put-byte in
     let put2 = c .before .before .before .before .put-byte2 in
-    (c .bit3 .ensures .1, omega (arith, front-end (s .args .map) (s .args .keys), s .pre, c .before .before .before .before .before .before .before .before .before .before .bit .ensures .0, c .before .before .before .before .before .bit2 .ensures .0, c .bit3 .ensures .0, put .ensures .0, put2 .ensures .0, simp length-set at (put .kept .0), put2 .kept .0))
+    let on = c .before .before .before .before .before .before .before .before .before .before .bit in
+    let on2 = c .before .before .before .before .before .bit2 in (
+      c .bit3 .ensures .1,
+      third-room 1 _ _ _ _ (on .result) (room s) (on .ensures .0) (on2 .result) (put .result) _ (on2 .ensures .0) (put .ensures .0) (simp length-set at (put .kept .0))
+          (c .bit3 .result) (put2 .result) _ (c .bit3 .ensures .0) (put2 .ensures .0) (put2 .kept .0),
+    )
 
 same-length : tie.Need-same-length
 same-length c =
