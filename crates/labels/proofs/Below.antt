@@ -9,15 +9,15 @@ use store.Enc.{and-l, and-r}
 use lib.Ieee.Fits.{and-i}
 use Rattle.labels.specs.Membership.{allBelow, anyBelow}
 
-or-cases : (x y : Bool) → T (x || y) → T x ⊎ T y
+pub or-cases : (x y : Bool) → T (x || y) → T x ⊎ T y
 or-cases true y t = inl tt
 or-cases false y t = inr t
 
-or-l : (x y : Bool) → T x → T (x || y)
+pub or-l : (x y : Bool) → T x → T (x || y)
 or-l true y t = tt
 or-l false y t = absurd t
 
-or-r : (x y : Bool) → T y → T (x || y)
+pub or-r : (x y : Bool) → T y → T (x || y)
 or-r true y t = tt
 or-r false y t = t
 

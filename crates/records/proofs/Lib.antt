@@ -9,3 +9,5 @@ pub mod Writing
 pub mod Decoding
 pub mod Encoding
 pub mod RoundTrips
+pub mod Carriable
+pub mod Runs

@@ -20,7 +20,7 @@ use Rattle.records.proofs.Decoding.{decoded-accepted, accepts}
 use Rattle.records.proofs.Encoding.{counted, known, keyed, fitting, bytes-length, encoded-accepted, no-write-refusal}
 use Rattle.records.proofs.Joining.{length-split, split-join, join-split, fits-split, drop-bytes, values-from, from-values}
 
-passed : (b : Bool) → T b → b ≡ true
+pub passed : (b : Bool) → T b → b ≡ true
 passed true t = refl
 passed false t = absurd t
 
@@ -50,7 +50,7 @@ number-is d r out = go (writeRefusal d r out)
     go zero = refl
     go (suc n) = rw (eqb·suc-zero n)
 
-written-carriable : (d : Direction) (r : Record) (out : List ℕ) → writeRefusal d r out ≡ accepted → T (carriable d r)
+pub written-carriable : (d : Direction) (r : Record) (out : List ℕ) → writeRefusal d r out ≡ accepted → T (carriable d r)
 unfolding writeRefusal
 written-carriable d r out = go (ltb (length out) (longest d)) (carriable d r)
   where
@@ -160,7 +160,7 @@ module _ (d : Direction) (bytes : List ℕ) (h : T (areBytes bytes)) (e : readRe
       rw (same-values, same-map, same-keys bytes, join-split (widths (mapOf bytes) (keysOf bytes)) (drop 1 bytes) (drop-bytes 1 bytes h) as-many)
       (sym (drop-cons bytes 0 0 (positive (length bytes) (known-map .0))))
 
-  carried-back : T (carriable d (fieldsOf bytes))
+  pub carried-back : T (carriable d (fieldsOf bytes))
   unfolding carriable keysZero apart
   carried-back =
       rw (same-values, same-map, same-keys bytes, known-map .1, tests .1)
