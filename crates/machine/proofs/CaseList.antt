@@ -1,0 +1,17 @@
+-- The worked cases hold: each is computed.
+use Rattle.machine.specs.Cases.{with, emptyRows, policyWith, stepBytes, stepsBytes, scriptsWith, stateWith, sameNumbers, gives, rightFrom, allRight, CasesAToJ}
+use Rattle.machine.specs.MoreCases.{MoreCases}
+use Rattle.machine.proofs.Computing.{machine}
+
+-- what the cases are told with, opened too
+unfoldable pub cases : Unit {0}
+unfolding machine with emptyRows policyWith stepBytes stepsBytes scriptsWith stateWith sameNumbers gives rightFrom allRight
+cases = tt
+
+pub cases-a-to-j : CasesAToJ
+unfolding cases
+cases-a-to-j = tt
+
+pub more-cases : MoreCases
+unfolding cases
+more-cases = tt

@@ -1,0 +1,77 @@
+-- The laws of a choice, and of what a test keeps of a list.
+use Prim.Native.Nat.{ℕ}
+use mathlib.Core.Bool.{Bool, true, false, not, true≢false, false≢true}
+use mathlib.Core.List.{List, [], _∷_, _++_, map}
+use mathlib.Core.Logic.{_⊎_, inl, inr}
+use mathlib.Core.Path.{_≡_, refl, ap, subst}
+use lib.Dec.{T, ltb}
+use Rattle.machine.specs.Choice.{branch, keep}
+
+-- a test passes or fails
+pub either : (b : Bool) → T b ⊎ T (not b)
+either true = inl tt
+either false = inr tt
+
+pub is-true : (b : Bool) → T b → b ≡ true
+is-true true t = refl
+is-true false t = absurd t
+
+module _ {A : Type 0} where
+  pub branch-true : (b : Bool) (x y : A) → T b → branch b x y ≡ x
+  unfolding branch
+  branch-true true x y t = refl
+  branch-true false x y t = absurd t
+
+  pub branch-false : (b : Bool) (x y : A) → T (not b) → branch b x y ≡ y
+  unfolding branch
+  branch-false true x y t = absurd t
+  branch-false false x y t = refl
+
+  -- what holds of either value, under its test, holds of the choice
+  pub one : (P : A → Type 0) (b : Bool) {x y : A} → (T b → P x) → (T (not b) → P y) → P (branch b x y)
+  unfolding branch
+  one P true f g = f tt
+  one P false f g = g tt
+
+-- two choices by equal tests, of values that may have other types
+pub two : {A B : Type 0} (R : A → B → Type 0) (b c : Bool) {x y : A} {x′ y′ : B} → b ≡ c → (T b → R x x′) → (T (not b) → R y y′)
+    → R (branch b x y) (branch c x′ y′)
+unfolding branch
+two R true true e f g = f tt
+two R true false e f g = absurd (true≢false e)
+two R false true e f g = absurd (false≢true e)
+two R false false e f g = g tt
+
+-- a number that is 0 is not the first refusal's: its test passed, and the others go on
+pub first-passed : (b : Bool) (n y : ℕ) → T (ltb 0 n) → branch b n y ≡ 0 → T (not b) × (y ≡ 0)
+unfolding branch
+first-passed true n y l e = absurd (subst (λ (x : ℕ). T (ltb 0 x)) e l)
+first-passed false n y l e = (tt, e)
+
+pub passed : (b : Bool) (n y : ℕ) → T (ltb 0 n) → branch (not b) n y ≡ 0 → T b × (y ≡ 0)
+passed true n y l e = first-passed (not true) n y l e
+passed false n y l e = absurd (first-passed (not false) n y l e .0)
+
+-- ---- lists
+
+module _ {A : Type 0} (test : A → Bool) where
+  pub keep-append : (xs ys : List A) → keep test (xs ++ ys) ≡ keep test xs ++ keep test ys
+  unfolding keep branch
+  keep-append [] ys = refl
+  keep-append (x ∷ xs) ys = go (test x) (keep test xs) (keep test ys) (keep-append xs ys)
+    where
+      go : (b : Bool) {l : List A} (m n : List A) → l ≡ m ++ n → branch b (x ∷ l) l ≡ branch b (x ∷ m) m ++ n
+      go true m n e = ap (λ (l : List A). x ∷ l) e
+      go false m n e = e
+
+  pub keep-one : (x : A) → T (test x) → keep test (x ∷ []) ≡ x ∷ []
+  unfolding keep
+  keep-one x t = branch-true (test x) (x ∷ []) [] t
+
+  pub keep-none : (x : A) → T (not (test x)) → keep test (x ∷ []) ≡ []
+  unfolding keep
+  keep-none x t = branch-false (test x) (x ∷ []) [] t
+
+pub map-append : {A B : Type 0} (f : A → B) (xs ys : List A) → map f (xs ++ ys) ≡ map f xs ++ map f ys
+map-append f [] ys = refl
+map-append f (x ∷ xs) ys = ap (λ l. f x ∷ l) (map-append f xs ys)

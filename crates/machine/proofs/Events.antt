@@ -1,0 +1,54 @@
+-- What holds of each cookie of a record, and of its value, holds of what its event brings. The keys of an event's cookies are below 8.
+use Prim.Native.Nat.{ℕ, _<_}
+use native.Mathlib.Omega.{arith}
+use mathlib.Core.List.{List}
+use lib.ListN.{getD}
+use Rattle.records.specs.declared.Record.{Record}
+use Rattle.records.specs.Layout.{keyNumbers}
+use Rattle.machine.specs.Choice.{keep}
+use Rattle.machine.specs.Policy.{hostKeys}
+use Rattle.machine.specs.Session.{has, Cookie}
+use Rattle.machine.specs.Machine.{Event, Load, DocumentResponse, ScriptResponse, Redirect, cookiesOf, eventOf}
+use Rattle.machine.proofs.Choices.{one}
+use Rattle.machine.proofs.Lists.{Each, each-map, each-keep}
+
+abbrev pub EventCookies : (Cookie → Type 0) → Event → Type 0
+EventCookies P (Load u n) = Unit {0}
+EventCookies P (DocumentResponse u n cs x) = Each P cs
+EventCookies P (ScriptResponse u n cs v) = Each P cs
+EventCookies P (Redirect u n cs t) = Each P cs
+
+-- the value of a script's response
+abbrev pub EventValue : (ℕ → Type 0) → Event → Type 0
+EventValue Q (Load u n) = Unit {0}
+EventValue Q (DocumentResponse u n cs x) = Unit {0}
+EventValue Q (ScriptResponse u n cs v) = Q v
+EventValue Q (Redirect u n cs t) = Unit {0}
+
+module _ (r : Record) where
+  abbrev cookie : ℕ → Cookie
+  cookie k = record { key = k; value = getD (r .cookies) k 0 }
+
+  cookies-each : (P : Cookie → Type 0) → Each (λ k. P (cookie k)) keyNumbers → Each P (cookiesOf r)
+  unfolding cookiesOf
+  cookies-each P all = each-map P cookie (keep (has (r .keys)) keyNumbers) (each-keep (λ k. P (cookie k)) (has (r .keys)) keyNumbers all)
+
+  pub event-cookies : (P : Cookie → Type 0) → Each (λ k. P (cookie k)) keyNumbers → EventCookies P (eventOf r)
+  unfolding eventOf
+  event-cookies P all =
+      let cs = cookies-each P all in
+      one (EventCookies P) _ (λ _. tt) (λ _. one (EventCookies P) _ (λ _. cs) (λ _. one (EventCookies P) _ (λ _. cs) (λ _. cs)))
+
+  pub event-value : (Q : ℕ → Type 0) → Q (r .value) → EventValue Q (eventOf r)
+  unfolding eventOf
+  event-value Q q = one (EventValue Q) _ (λ _. tt) (λ _. one (EventValue Q) _ (λ _. tt) (λ _. one (EventValue Q) _ (λ _. q) (λ _. tt)))
+
+-- the keys
+abbrev pub KeysBelow : List Cookie → Type 0
+KeysBelow = Each (λ (c : Cookie). c .key < hostKeys)
+
+abbrev pub EventKeys : Event → Type 0
+EventKeys = EventCookies (λ (c : Cookie). c .key < hostKeys)
+
+pub event-keys : (r : Record) → EventKeys (eventOf r)
+event-keys r = event-cookies r (λ (c : Cookie). c .key < hostKeys) (omega arith)

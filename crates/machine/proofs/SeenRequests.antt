@@ -1,0 +1,142 @@
+-- A request looks the same to an observer from states that agree, and one that it does not see is no sight.
+use Prim.Native.Nat.{ℕ, zero, suc, _<_}
+use native.Mathlib.Omega.{arith}
+use mathlib.Core.Bool.{Bool, true, false, not, _&&_}
+use mathlib.Core.List.{List, [], _∷_, map}
+use mathlib.Core.Logic.{⊎-elim}
+use mathlib.Core.Path.{_≡_, refl, sym, ap, ap₂, _∙_}
+use lib.Dec.{T, eqb}
+use lib.ListN.{getD}
+use store.Enc.{and-r}
+use Rattle.labels.specs.Sets.{holds}
+use Rattle.records.specs.declared.Record.{Record}
+use Rattle.records.specs.Layout.{keyNumbers, documentRequest, scriptRequest, withCookies}
+use Rattle.machine.specs.Choice.{branch, keep}
+use Rattle.machine.specs.Policy.{hostKeys, cookieIndex, cookieReaders, urlHost, urlMessage}
+use Rattle.machine.specs.Session.{documentKind, cookieValue, present, has, keyMap, Cookie, attaches, requestMap, request}
+use Rattle.machine.specs.Machine.{plainMap, cookiesOf}
+use Rattle.machine.specs.Secrecy.{Sight}
+use Rattle.machine.proofs.Choices.{either, one, two, branch-false, keep-one, keep-none}
+use Rattle.machine.proofs.Lists.{Each}
+use Rattle.machine.proofs.KeyMaps.{has-map}
+use Rattle.machine.proofs.Observer.{Observer, Laws, Agree, sightBy, sightsBy}
+
+-- the kind of a request does not go by its cookies
+plain-map : (kind keys : ℕ) → plainMap (requestMap kind keys) ≡ branch (eqb kind documentKind) documentRequest scriptRequest
+unfolding requestMap branch
+plain-map kind keys = go (eqb kind documentKind) (eqb keys 0)
+  where
+    go : (b c : Bool)
+        → plainMap (branch c (branch b documentRequest scriptRequest) (withCookies (branch b documentRequest scriptRequest)))
+        ≡ branch b documentRequest scriptRequest
+    go true true = refl
+    go true false = refl
+    go false true = refl
+    go false false = refl
+
+-- ---- the cookies of two records that are alike where a test looks
+
+abbrev cookieWith : List ℕ → ℕ → Cookie
+cookieWith values k = record { key = k; value = getD values k 0 }
+
+module _ (see : ℕ → Bool) (keys keys′ : ℕ) (values values′ : List ℕ)
+    (sameKeys : (k : ℕ) → k < hostKeys → T (see k) → has keys k ≡ has keys′ k)
+    (sameValues : (k : ℕ) → k < hostKeys → T (see k) → T (has keys k) → getD values k 0 ≡ getD values′ k 0) where
+  abbrev looks : Cookie → Bool
+  looks c = see (c .key)
+
+  skips : (k : ℕ) (b : Bool) (vs ks : List ℕ) → T (not (see k)) → keep looks (map (cookieWith vs) (branch b (k ∷ ks) ks)) ≡ keep looks (map (cookieWith vs) ks)
+  unfolding keep
+  skips k b vs ks t =
+      one (λ (l : List ℕ). keep looks (map (cookieWith vs) l) ≡ keep looks (map (cookieWith vs) ks)) b
+      (λ _. branch-false (see k) (cookieWith vs k ∷ keep looks (map (cookieWith vs) ks)) (keep looks (map (cookieWith vs) ks)) t) (λ _. refl)
+
+  alike : (ks : List ℕ) → Each (λ k. k < hostKeys) ks
+      → keep looks (map (cookieWith values) (keep (has keys) ks)) ≡ keep looks (map (cookieWith values′) (keep (has keys′) ks))
+  unfolding keep
+  alike [] below = refl
+  alike (k ∷ ks) below =
+      let rest = alike ks (below .1) in
+      ⊎-elim
+      (λ (t : T (see k)). two (λ (l m : List ℕ). keep looks (map (cookieWith values) l) ≡ keep looks (map (cookieWith values′) m)) (has keys k) (has keys′ k) (sameKeys k (below .0) t)
+      (λ b. ap₂ (λ (v : ℕ) (l : List Cookie). branch (see k) (record { key = k; value = v } ∷ l) l) (sameValues k (below .0) t b) rest)
+      (λ _. rest))
+      (λ (t : T (not (see k))). skips k (has keys k) values (keep (has keys) ks) t ∙ rest ∙ sym (skips k (has keys′ k) values′ (keep (has keys′) ks) t))
+      (either (see k))
+
+  pub cookies-alike : keep looks (map (cookieWith values) (keep (has keys) keyNumbers)) ≡ keep looks (map (cookieWith values′) (keep (has keys′) keyNumbers))
+  cookies-alike = alike keyNumbers (omega arith)
+
+-- a value for each key, by its key
+pub at-key : (f : ℕ → ℕ) (k : ℕ) → k < hostKeys → getD (map f keyNumbers) k 0 ≡ f k
+at-key f zero l = refl
+at-key f (suc zero) l = refl
+at-key f (suc (suc zero)) l = refl
+at-key f (suc (suc (suc zero))) l = refl
+at-key f (suc (suc (suc (suc zero)))) l = refl
+at-key f (suc (suc (suc (suc (suc zero))))) l = refl
+at-key f (suc (suc (suc (suc (suc (suc zero)))))) l = refl
+at-key f (suc (suc (suc (suc (suc (suc (suc zero))))))) l = refl
+at-key f (suc (suc (suc (suc (suc (suc (suc (suc k)))))))) l = absurd (omega arith)
+
+both-and : (x y b : Bool) → (T b → x ≡ y) → x && b ≡ y && b
+both-and x y true f = ap (λ (z : Bool). z && true) (f tt)
+both-and true true false f = refl
+both-and true false false f = refl
+both-and false true false f = refl
+both-and false false false f = refl
+
+-- ---- requests
+
+module _ (p : List ℕ) (v : Observer) (laws : Laws p v) (s t : List ℕ) (a : Agree v s t) (n kind handler u : ℕ) (seen : T (v .seesRequest u)) where
+  abbrev h : ℕ
+  h = urlHost p u
+
+  abbrev may : ℕ → Bool
+  may k = holds (cookieReaders p (cookieIndex h k)) (urlMessage p u)
+
+  equal : (k : ℕ) → k < hostKeys → T (v .seesAttached u k) → T (may k)
+      → (present s h k ≡ present t h k) × (cookieValue s (cookieIndex h k) ≡ cookieValue t (cookieIndex h k))
+  equal k l see m = a .cookies h k (omega arith) l (laws .attaches u k seen see m)
+
+  attached-alike : (k : ℕ) → k < hostKeys → T (v .seesAttached u k) → attaches p s u k ≡ attaches p t u k
+  unfolding attaches
+  attached-alike k l see = both-and (present s h k) (present t h k) (may k) (λ m. equal k l see m .0)
+
+  keys-alike : (k : ℕ) → k < hostKeys → T (v .seesAttached u k) → has (keyMap (attaches p s u)) k ≡ has (keyMap (attaches p t u)) k
+  keys-alike k l see = has-map hostKeys (attaches p s u) k l ∙ attached-alike k l see ∙ sym (has-map hostKeys (attaches p t u) k l)
+
+  abbrev values : List ℕ → ℕ → ℕ
+  values w k = branch (attaches p w u k) (cookieValue w (cookieIndex h k)) 0
+
+  values-alike : (k : ℕ) → k < hostKeys → T (v .seesAttached u k) → T (has (keyMap (attaches p s u)) k)
+      → getD (map (values s) keyNumbers) k 0 ≡ getD (map (values t) keyNumbers) k 0
+  unfolding attaches
+  values-alike k l see b =
+      at-key (values s) k l
+      ∙ two (λ (x y : ℕ). x ≡ y) (attaches p s u k) (attaches p t u k) (attached-alike k l see) (λ on. equal k l see (and-r (present s h k) (may k) on) .1) (λ _. refl)
+      ∙ sym (at-key (values t) k l)
+
+  pub sight-alike : sightBy v (request p s n kind handler u) ≡ sightBy v (request p t n kind handler u)
+  unfolding sightBy request cookiesOf
+  sight-alike = ap₂ (λ (m : ℕ) (cs : List Cookie). record { kind = m; url = u; connection = n; handler = handler; cookies = cs })
+      (plain-map kind (keyMap (attaches p s u)) ∙ sym (plain-map kind (keyMap (attaches p t u))))
+      (cookies-alike (v .seesAttached u) (keyMap (attaches p s u)) (keyMap (attaches p t u)) (map (values s) keyNumbers) (map (values t) keyNumbers) keys-alike values-alike)
+
+-- one request sent
+module _ (p : List ℕ) (v : Observer) (n kind handler u : ℕ) where
+  one-sight : (s : List ℕ) → T (v .seesRequest u) → sightsBy v (request p s n kind handler u ∷ []) ≡ sightBy v (request p s n kind handler u) ∷ []
+  unfolding sightsBy request
+  one-sight s t = ap (map (sightBy v)) (keep-one (λ (r : Record). v .seesRequest (r .url)) (request p s n kind handler u) t)
+
+  pub unseen-request : (s : List ℕ) → T (not (v .seesRequest u)) → sightsBy v (request p s n kind handler u ∷ []) ≡ []
+  unfolding sightsBy request
+  unseen-request s t = ap (map (sightBy v)) (keep-none (λ (r : Record). v .seesRequest (r .url)) (request p s n kind handler u) t)
+
+  pub same-request : Laws p v → (s t : List ℕ) → Agree v s t
+      → sightsBy v (request p s n kind handler u ∷ []) ≡ sightsBy v (request p t n kind handler u ∷ [])
+  same-request laws s t a =
+      ⊎-elim
+      (λ (seen : T (v .seesRequest u)). one-sight s seen ∙ ap (λ (x : Sight). x ∷ []) (sight-alike p v laws s t a n kind handler u seen) ∙ sym (one-sight t seen))
+      (λ (hidden : T (not (v .seesRequest u))). unseen-request s hidden ∙ sym (unseen-request t hidden))
+      (either (v .seesRequest u))

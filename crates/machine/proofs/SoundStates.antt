@@ -1,0 +1,160 @@
+-- Sound states word by word, with what holds of each cookie value besides: the empty state, and states after a cookie or a connection was set.
+use Prim.Native.Nat.{ℕ, _+_, _^_, _<_}
+use native.Mathlib.Decide.{ℕ-discrete}
+use native.Mathlib.Omega.{arith}
+use mathlib.Core.Bool.{Bool, not, _&&_, _||_}
+use mathlib.Core.List.{List}
+use mathlib.Core.Logic.{⊎-elim}
+use mathlib.Core.Path.{_≡_, _∙_}
+use lib.Dec.{T, ltb, eqb, ltb→lt, lt→ltb, eqb→eq, T-not}
+use lib.ListN.{length, getD, length-replicate, getD-replicate}
+use lib.Ieee.Fits.{and-i, eq→eqb}
+use store.Enc.{and-l, and-r}
+use Rattle.labels.specs.Addresses.{hosts}
+use Rattle.labels.proofs.Below.{all-at, all-of, or-cases, or-l, or-r}
+use Rattle.machine.specs.Policy.{urlRows, hostKeys, connections, cookieIndex, isUrl}
+use Rattle.machine.specs.Session.{presenceAt, connectionsAt, stateWords, emptyState, cookieValue, presence, connectionWord, present, free, documentKind, scriptKind, packed, kindOf, originOf, handlerOf, urlOf, scriptCount, cookieSound, hostSound, urlSound, documentSound, scriptSound, connectionSound, sound, setCookie, setConnection}
+use Rattle.machine.proofs.KeyMaps.{map-below}
+use Rattle.machine.proofs.StateWords.{length-cookie, length-connection, value-here, value-elsewhere, presence-here, presence-elsewhere, present-here, present-elsewhere, connection-past-cookie, connection-here, connection-elsewhere, value-past-connection, presence-past-connection}
+use Rattle.machine.proofs.ConnectionWords.{kind-packed, origin-packed, handler-packed, url-packed}
+
+-- for `search`: the conjuncts of a passed test, and a test joined of them
+pub ruleset parts = (and-l, and-r)
+
+pub ruleset joined = (and-l, and-r, and-i)
+
+-- a sound state, and Q of each cookie value
+pub record Sound (p : List ℕ) (Q : ℕ → Type 0) (s : List ℕ) : Type 0 where
+  pub whole : length s ≡ stateWords
+  pub keys : (h : ℕ) → h < hosts → presence s h < 2 ^ hostKeys
+  pub absent : (h k : ℕ) → h < hosts → k < hostKeys → T (cookieSound s h k)
+  pub words : (n : ℕ) → n < connections → T (connectionSound p n (connectionWord s n))
+  pub values : (c : ℕ) → c < presenceAt → Q (cookieValue s c)
+
+-- to and from the test
+module _ (p : List ℕ) (Q : ℕ → Type 0) (s : List ℕ) where
+  pub sound-of : T (sound p s) → ((c : ℕ) → c < presenceAt → Q (cookieValue s c)) → Sound p Q s
+  unfolding sound hostSound
+  sound-of t values = record {
+    whole = eqb→eq (length s) stateWords (search parts);
+    keys = λ h l. let t = host h l in ltb→lt (presence s h) (2 ^ hostKeys) (search parts);
+    absent = λ h k l m. let t = host h l in all-at hostKeys (cookieSound s h) (search parts) k m;
+    words = all-at connections (λ n. connectionSound p n (connectionWord s n)) (search parts);
+    values = values;
+  }
+    where
+      host : (h : ℕ) → h < hosts → T (hostSound s h)
+      host = all-at hosts (hostSound s) (search parts)
+
+  pub of-sound : Sound p Q s → T (sound p s)
+  unfolding sound hostSound
+  of-sound good =
+      let whole = eq→eqb (good .whole) in
+      let cookies = all-of hosts (hostSound s) host in
+      let words = all-of connections (λ n. connectionSound p n (connectionWord s n)) (good .words) in
+      search joined
+    where
+      host : (h : ℕ) → h < hosts → T (hostSound s h)
+      host h l =
+          let keys = lt→ltb (presence s h) (2 ^ hostKeys) (good .keys h l) in
+          let absent = all-of hostKeys (cookieSound s h) (λ k m. good .absent h k l m) in
+          search joined
+
+-- the empty state
+pub empty-good : (p : List ℕ) (Q : ℕ → Type 0) → Q 0 → Sound p Q emptyState
+unfolding cookieSound connectionSound
+empty-good p Q q = record {
+  whole = length-replicate {A = ℕ} stateWords 0;
+  keys = λ h l. rw (zeros (presenceAt + h) (omega arith)) (omega arith);
+  absent = λ h k l m. or-r (present emptyState h k) (eqb (cookieValue emptyState (cookieIndex h k)) 0) (eq→eqb (zeros (cookieIndex h k) (omega arith)));
+  words = λ n l. rw (zeros (connectionsAt + n) (omega arith)) tt;
+  values = λ c l. rw (zeros c (omega arith)) q;
+}
+  where
+    zeros : (i : ℕ) → i < stateWords → getD emptyState i 0 ≡ 0
+    zeros i l = getD-replicate stateWords i 0 0 l
+
+-- a cookie set, a connection set
+module _ (p : List ℕ) (Q : ℕ → Type 0) (s : List ℕ) (good : Sound p Q s) where
+  pub cookie-kept : (h k v : ℕ) → h < hosts → k < hostKeys → Q v → Sound p Q (setCookie h k v s)
+  unfolding cookieSound
+  cookie-kept h k v lh lk q = record {
+    whole = length-cookie h k v s ∙ w;
+    keys = λ g l. elim (ℕ-discrete g h) [
+      | yes e ↦ rw (e, presence-here s w h k v lh lk) (map-below hostKeys (λ j. eqb j k || present s h j))
+      | no ne ↦ rw (presence-elsewhere s w h k v lh lk g ne) (good .keys g l)
+    ];
+    absent = λ g j l m. elim (ℕ-discrete (cookieIndex g j) (cookieIndex h k)) [
+      | yes e ↦ let eg : g ≡ h = omega arith in let ej : j ≡ k = omega arith in rw (eg, ej, present-here s w h k v lh lk) tt
+      | no ne ↦ rw (present-elsewhere s w h k v lh lk g j m ne, value-elsewhere s w h k v lh lk (cookieIndex g j) (omega arith) ne) (good .absent g j l m)
+    ];
+    words = λ n l. rw (connection-past-cookie s w h k v lh lk n) (good .words n l);
+    values = λ c l. elim (ℕ-discrete c (cookieIndex h k)) [
+      | yes e ↦ rw (e, value-here s w h k v lh lk) q
+      | no ne ↦ rw (value-elsewhere s w h k v lh lk c l ne) (good .values c l)
+    ];
+  }
+    where
+      w : length s ≡ stateWords
+      w = good .whole
+
+  pub connection-kept : (n w : ℕ) → n < connections → T (connectionSound p n w) → Sound p Q (setConnection n w s)
+  unfolding cookieSound
+  connection-kept n w ln t = record {
+    whole = length-connection n w s ∙ good .whole;
+    keys = λ g l. rw (presence-past-connection s n w g l) (good .keys g l);
+    absent = λ g j l m. rw (presence-past-connection s n w g l, value-past-connection s n w (cookieIndex g j) (omega arith)) (good .absent g j l m);
+    words = λ m l. elim (ℕ-discrete m n) [
+      | yes e ↦ rw (e, connection-here s n w (good .whole) ln) t
+      | no ne ↦ rw (connection-elsewhere s n w m ne) (good .words m l)
+    ];
+    values = λ c l. rw (value-past-connection s n w c l) (good .values c l);
+  }
+
+  pub connection-freed : (n : ℕ) → n < connections → Sound p Q (setConnection n free s)
+  unfolding connectionSound
+  connection-freed n l = connection-kept n free l tt
+
+-- ---- the four fields of an open connection: a document's, or a script request's
+abbrev pub documentFields : List ℕ → ℕ → ℕ → ℕ → ℕ → ℕ → Bool
+documentFields p n k o h u = eqb k documentKind && (eqb o 0 && (eqb h 0 && urlSound p n u))
+
+abbrev pub scriptFields : List ℕ → ℕ → ℕ → ℕ → ℕ → ℕ → Bool
+scriptFields p n k o h u = eqb k scriptKind && (isUrl p o && (ltb h scriptCount && urlSound p n u))
+
+abbrev pub openFields : List ℕ → ℕ → ℕ → ℕ → ℕ → ℕ → Bool
+openFields p n k o h u = documentFields p n k o h u || scriptFields p n k o h u
+
+module _ (p : List ℕ) where
+  pub url-byte : (u : ℕ) → T (isUrl p u) → u < 256
+  unfolding isUrl
+  url-byte u t = let l = ltb→lt u urlRows (search parts) in omega arith
+
+  -- a sound word that is not free has such fields
+  pub word-fields : (n w : ℕ) → T (connectionSound p n w) → T (not (eqb w free)) → T (openFields p n (kindOf w) (originOf w) (handlerOf w) (urlOf w))
+  unfolding connectionSound documentSound scriptSound
+  word-fields n w t ne =
+      ⊎-elim (λ z. absurd (T-not (eqb w free) ne z)) (λ r. r) (or-cases (eqb w free) (openFields p n (kindOf w) (originOf w) (handlerOf w) (urlOf w)) t)
+
+  module _ (n k o h u : ℕ) (t : T (openFields p n k o h u)) where
+    pub fields-bytes : (o < 256) × (h < 256) × (u < 256)
+    unfolding urlSound
+    fields-bytes =
+        ⊎-elim (λ d. let eo = eqb→eq o 0 (search parts) in let eh = eqb→eq h 0 (search parts) in (omega arith, omega arith, url-byte u (search parts)))
+        (λ s. let lh = ltb→lt h scriptCount (search parts) in (url-byte o (search parts), omega arith, url-byte u (search parts)))
+        (or-cases (documentFields p n k o h u) (scriptFields p n k o h u) t)
+
+    -- a word packed of such fields is sound
+    pub fields-word : T (connectionSound p n (packed k o h u))
+    unfolding connectionSound documentSound scriptSound
+    fields-word =
+        let (lo, lh, lu) = fields-bytes in
+        or-r (eqb (packed k o h u) free) (documentSound p n (packed k o h u) || scriptSound p n (packed k o h u))
+        (rw (kind-packed k o h u lo lh lu, origin-packed k o h u lo lh lu, handler-packed k o h u lo lh lu, url-packed k o h u lo lh lu) t)
+
+    -- the same with another URL that fits
+    pub fields-moved : (v : ℕ) → T (urlSound p n v) → T (openFields p n k o h v)
+    fields-moved v z =
+        ⊎-elim (λ d. or-l (documentFields p n k o h v) (scriptFields p n k o h v) (search joined))
+        (λ s. or-r (documentFields p n k o h v) (scriptFields p n k o h v) (search joined))
+        (or-cases (documentFields p n k o h u) (scriptFields p n k o h u) t)

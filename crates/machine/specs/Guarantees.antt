@@ -1,0 +1,53 @@
+-- What holds of every single call. The proofs are in proofs/Soundness.antt, Refusals.antt, WordSizes.antt and Sending.antt.
+use Prim.Native.Nat.{ℕ, _^_, _≤_}
+use mathlib.Core.Bool.{Bool, true, _&&_}
+use mathlib.Core.List.{List, [], _∷_}
+use mathlib.Core.Path.{_≡_}
+use lib.Dec.{T, ltb}
+use lib.ListN.{length, take, drop}
+use lib.Pow.{areBytes}
+use Rattle.records.specs.declared.Direction.the-variants.{Request}
+use Rattle.records.specs.Codec.{accepted, readRun}
+use Rattle.machine.specs.Session.{emptyState, sound}
+use Rattle.machine.specs.Machine.{outcome, Fed, feed}
+
+-- Every record keeps a state sound, and the empty state is sound, under every policy.
+abbrev pub SoundKept : Type 0
+SoundKept = (p scripts s bytes out : List ℕ) → T (sound p s) → T (sound p (feed p scripts s bytes out .state))
+
+abbrev pub EmptySound : Type 0
+EmptySound = (p : List ℕ) → T (sound p emptyState)
+
+-- A refusal changes nothing: zero counts, the same state, the same buffer.
+abbrev pub refusedWith : ℕ → List ℕ → List ℕ → Fed
+refusedWith number s out = record { number = number; bytes = 0; steps = 0; state = s; buffer = out }
+
+abbrev pub RefusalChangesNothing : Type 0
+RefusalChangesNothing =
+    (p scripts s bytes out : List ℕ) → (feed p scripts s bytes out .number ≡ accepted → ⊥)
+    → feed p scripts s bytes out ≡ refusedWith (feed p scripts s bytes out .number) s out
+
+-- The counted bytes are in the buffer, and past them it is the old one.
+abbrev pub PastIsKept : Type 0
+PastIsKept =
+    (p scripts s bytes out : List ℕ)
+    → (feed p scripts s bytes out .bytes ≤ length out)
+    × (length (feed p scripts s bytes out .buffer) ≡ length out)
+    × (drop (feed p scripts s bytes out .bytes) (feed p scripts s bytes out .buffer) ≡ drop (feed p scripts s bytes out .bytes) out)
+
+-- What the types of the code say of a list: words are below 2^32 (and bytes below 256, `areBytes`).
+abbrev pub areWords : List ℕ → Bool
+areWords [] = true
+areWords (w ∷ ws) = ltb w (2 ^ 32) && areWords ws
+
+abbrev pub WordsKept : Type 0
+WordsKept =
+    (p scripts s bytes out : List ℕ) → T (areBytes scripts) → T (areWords s) → T (areBytes bytes)
+    → T (areWords (feed p scripts s bytes out .state))
+
+-- The counted bytes are wholly request records: the ones sent.
+abbrev pub SentReadsBack : Type 0
+SentReadsBack =
+    (p scripts s bytes out : List ℕ) → T (areBytes scripts) → T (areWords s) → T (areBytes bytes)
+    → readRun Request (take (feed p scripts s bytes out .bytes) (feed p scripts s bytes out .buffer))
+    ≡ record { records = outcome p scripts s bytes out .effects .sent; left = [] }

@@ -1,0 +1,10 @@
+pub mod Choice
+pub mod Policy
+pub mod Session
+pub mod Scripts
+pub mod Machine
+pub mod Cases
+pub mod MoreCases
+pub mod Guarantees
+pub mod Secrecy
+pub mod SecrecyExamples

@@ -1,0 +1,218 @@
+-- A second list of worked cases: document 01's other examples; what each record does to connections, handlers and cookies; and each
+-- condition of the policy where it alone fails.
+use Prim.Native.Nat.{ℕ}
+use mathlib.Core.Bool.{_&&_}
+use mathlib.Core.List.{List, [], _∷_, _++_}
+use lib.Dec.{T}
+use lib.ListN.{take, replicate}
+use Rattle.machine.specs.Scripts.{Step, end, constant, add, readCookie, writeCookie, sendRequest, skipIfZero}
+use Rattle.machine.specs.Machine.{outputRoom}
+use Rattle.machine.specs.Cases.{Words, url, cookieLabel, connection, policyWith, scriptsWith, scriptOf, valueIs, keysAre, loading, requesting, Call, Case, allRight, call, refused, policyP, fromEmpty, loadZero, sevenStored, caseA}
+
+-- ---- document 01's other examples
+
+-- script 1 reads key 0, doubles the value and stores it
+abbrev pub doubleKeyZero : List ℕ
+doubleKeyZero = scriptsWith (scriptOf 1 (readCookie 1 0 ∷ add 1 1 1 ∷ writeCookie 0 1 ∷ end ∷ []) ∷ [])
+
+-- load 0 on connection 0 with so many output bytes
+abbrev pub withRoom : ℕ → Call → Case
+withRoom room c = record { scripts = scriptsWith []; room = room; start = []; calls = c ∷ [] }
+
+-- after e and a second load, on connection n, that script is the response's
+abbrev pub afterSeven : List Words → Call → Case
+afterSeven pending c = record { scripts = doubleKeyZero; room = outputRoom; start = pending ++ sevenStored; calls = c ∷ [] }
+
+abbrev pub otherExamples : List Case
+otherExamples =
+    -- 1,183 output bytes give 1, and 1,184 do not
+    withRoom 1183 (refused loadZero 1 [])
+    ∷ withRoom 1184 caseA
+    -- the script is stopped in connection 0, and goes on in connection 2, where it stores 14
+    ∷ afterSeven (loading 0 0 ∷ []) (call (0x0b ∷ 0x00 ∷ 0x00 ∷ 0x01 ∷ []) 0 1 [] sevenStored)
+    ∷ afterSeven (loading 2 0 ∷ []) (call (0x0b ∷ 0x00 ∷ 0x02 ∷ 0x01 ∷ []) 0 4 [] (valueIs 0 0 14 ∷ keysAre 0 0x01 ∷ []))
+    -- a load is not asked whether its event endpoint is among the connection's readers, nor for the URL's writers
+    ∷ fromEmpty (call (0x03 ∷ 0x00 ∷ 0x02 ∷ []) 0 0 (0x03 ∷ 0x00 ∷ 0x02 ∷ []) (loading 2 0 ∷ []) ∷ [])
+    ∷ fromEmpty (call (0x03 ∷ 0x02 ∷ 0x01 ∷ []) 0 0 (0x03 ∷ 0x02 ∷ 0x01 ∷ []) (loading 1 2 ∷ []) ∷ [])
+    -- 3: a script table with a byte too few
+    ∷ record { scripts = replicate 2047 0; room = outputRoom; start = []; calls = refused loadZero 3 [] ∷ [] }
+    -- 4: a presence bit above the eight
+    ∷ record { scripts = scriptsWith []; room = outputRoom; start = keysAre 15 0x100 ∷ []; calls = refused loadZero 4 (keysAre 15 0x100 ∷ []) ∷ [] }
+    -- 7: a free connection; another URL; the other kind
+    ∷ fromEmpty (refused (0x0b ∷ 0x00 ∷ 0x00 ∷ 0x00 ∷ []) 7 [] ∷ [])
+    ∷ fromEmpty (caseA
+    ∷ refused (0x0b ∷ 0x03 ∷ 0x00 ∷ 0x00 ∷ []) 7 (loading 0 0 ∷ [])
+    ∷ refused (0x13 ∷ 0x00 ∷ 0x00 ∷ 0x00 ∷ 0x00 ∷ 0x00 ∷ 0x00 ∷ []) 7 (loading 0 0 ∷ [])
+    ∷ [])
+    -- the example of the program walk: a, e and f are its first three records, and these two follow
+    ∷ record {
+      scripts = scriptsWith [];
+      room = outputRoom;
+      start = loading 0 0 ∷ sevenStored;
+      calls = refused (0x03 ∷ 0x00 ∷ 0x01 ∷ []) 8 (loading 0 0 ∷ sevenStored) ∷ refused [] 5 (loading 0 0 ∷ sevenStored) ∷ [];
+    }
+    ∷ []
+
+-- ---- a policy for the conditions one by one
+
+-- The http endpoints of hosts 0 to 3 are 0x1, 0x2, 0x4, 0x8. The page is URL 2, at host 0; it comes on connection 0.
+abbrev pub policyQ : List ℕ
+policyQ = policyWith (
+    -- at host 2; at host 1; the page
+    url 0 2 0xffffffff 0xffffffff
+    ∷ url 1 1 0xffffffff 0xffffffff
+    ∷ url 2 0 0xffffffff 0xffffffff
+    -- at host 1: few readers; few writers; another URL
+    ∷ url 3 1 0x2 0xffffffff
+    ∷ url 4 1 0xffffffff 0x2
+    ∷ url 5 1 0xffffffff 0xffffffff
+    -- the page's connection: its scripts have S = 0x3 and J = 0x1
+    ∷ connection 0 0x7 0x3 0x1
+    -- one that its scripts may use for URL 1
+    ∷ connection 1 0x3 0x3 0xf
+    -- as connection 1, but for: more readers; no message endpoint of host 1; no endpoint of host 0; no readers
+    ∷ connection 2 0x7 0x7 0xf
+    ∷ connection 3 0x3 0x3 0x1
+    ∷ connection 4 0x3 0x3 0x2
+    ∷ connection 5 0 0 0xf
+    -- host 0: key 0 is stored, read and written by the page on connection 0
+    ∷ cookieLabel 0 0 0x3 0x1
+    -- more readers than the connection; writers without J; more readers than S, within the connection's
+    ∷ cookieLabel 0 1 0xf 0x1
+    ∷ cookieLabel 0 2 0x3 0x2
+    ∷ cookieLabel 0 3 0x7 0x1
+    -- fewer readers than S; more writers than J
+    ∷ cookieLabel 0 4 0x1 0x1
+    ∷ cookieLabel 0 5 0x3 0x3
+    -- written on connection 1 too; the same, and its readers do not hold host 0
+    ∷ cookieLabel 0 6 0x3 0xf
+    ∷ cookieLabel 0 7 0x2 0xf
+    -- host 1: sent to host 1, stored and written on connection 1
+    ∷ cookieLabel 1 0 0x2 0xf
+    ∷ [])
+
+-- with Q: a script table, the state to start from, the record, and its number, steps, bytes sent and state
+abbrev pub inQ : List Words → List Words → List ℕ → ℕ → ℕ → List ℕ → List Words → Case
+inQ scripts start fed number steps sent state = record {
+  scripts = scriptsWith scripts;
+  room = outputRoom;
+  start = start;
+  calls = call fed number steps sent state ∷ [];
+}
+
+abbrev pub refusedInQ : List Words → List ℕ → ℕ → Case
+refusedInQ start fed number = inQ [] start fed number 0 [] start
+
+-- connection 0 loads the page; its response names script 1
+abbrev pub pageLoading : List Words
+pageLoading = loading 0 2 ∷ []
+
+abbrev pub pageResponse : List ℕ
+pageResponse = 0x0b ∷ 0x02 ∷ 0x00 ∷ 0x01 ∷ []
+
+-- the page with a script, from a state: the steps run, the bytes sent and the state after
+abbrev pub pageRuns : List Words → List Step → ℕ → List ℕ → List Words → Case
+pageRuns before code steps sent after = inQ (scriptOf 1 code ∷ []) (pageLoading ++ before) pageResponse 0 steps sent after
+
+-- ---- each condition where it alone fails
+
+-- host 0 has 9 for these keys
+abbrev pub nineFor : ℕ → ℕ → List Words
+nineFor k keys = valueIs 0 k 9 ∷ keysAre 0 keys ∷ []
+
+-- a script that copies a key's value to key 6
+abbrev pub copyKey : ℕ → List Step
+copyKey k = readCookie 1 k ∷ writeCookie 6 1 ∷ end ∷ []
+
+abbrev pub casesOfConditions : List Case
+casesOfConditions =
+    -- Step 5 where it is allowed: URL 1 on connection 1 with handler 5.
+    pageRuns [] (sendRequest 1 1 5 ∷ end ∷ []) 2 (0x0b ∷ 0x01 ∷ 0x01 ∷ 0x05 ∷ []) (requesting 1 2 5 1 ∷ [])
+    -- the event endpoint of URL 0 is not in S (it is among the connection's readers)
+    ∷ pageRuns [] (sendRequest 0 1 5 ∷ end ∷ []) 1 [] []
+    -- the readers of connection 2 are not within S (they are within the connection's readers)
+    ∷ pageRuns [] (sendRequest 1 2 5 ∷ end ∷ []) 1 [] []
+    -- connection 1 does not fit URL 3: readers
+    ∷ pageRuns [] (sendRequest 3 1 5 ∷ end ∷ []) 1 [] []
+    -- connection 3 does not fit URL 1: message endpoint
+    ∷ pageRuns [] (sendRequest 1 3 5 ∷ end ∷ []) 1 [] []
+    -- J is not within the writers of connection 4
+    ∷ pageRuns [] (sendRequest 1 4 5 ∷ end ∷ []) 1 [] []
+    -- J is not within the writers of URL 4
+    ∷ pageRuns [] (sendRequest 4 1 5 ∷ end ∷ []) 1 [] []
+    -- Step 3 where it is allowed.
+    ∷ pageRuns (nineFor 0 0x01) (copyKey 0) 3 [] (valueIs 0 0 9 ∷ valueIs 0 6 9 ∷ keysAre 0 0x41 ∷ [])
+    -- S is not within the readers of key 4; the writers of key 5 are not within J; key 0 is absent
+    ∷ pageRuns (nineFor 4 0x10) (copyKey 4) 1 [] (nineFor 4 0x10)
+    ∷ pageRuns (nineFor 5 0x20) (copyKey 5) 1 [] (nineFor 5 0x20)
+    ∷ pageRuns [] (copyKey 0) 1 [] []
+    -- Step 4: key 0 is written. The readers of key 3 are not within S, and J is not within the writers of key 2: the script goes on.
+    ∷ pageRuns [] (constant 1 9 ∷ writeCookie 3 1 ∷ writeCookie 2 1 ∷ writeCookie 0 1 ∷ end ∷ []) 5 [] (nineFor 0 0x01)
+    -- Delivered: the readers of key 1 are not within the connection's, and its writers not within those of key 2; these are passed over. Key 3
+    -- goes by the connection's readers, and not by S.
+    ∷ inQ [] pageLoading (0x0f ∷ 0x02 ∷ 0x00 ∷ 0x0e ∷ 0x00 ∷ 0x00 ∷ 0x00 ∷ 0x07 ∷ 0x00 ∷ 0x00 ∷ 0x00 ∷ 0x08 ∷ 0x00 ∷ 0x00 ∷ 0x00 ∷ 0x09 ∷ 0x00 ∷ []) 0 1 []
+    (nineFor 3 0x08)
+    -- A redirect of connection 1 where it is allowed, to URL 1.
+    ∷ inQ [] (loading 1 2 ∷ []) (0x23 ∷ 0x02 ∷ 0x01 ∷ 0x01 ∷ []) 0 0 (0x03 ∷ 0x01 ∷ 0x01 ∷ []) (loading 1 1 ∷ [])
+    -- the event endpoint of URL 0 is not among its readers; its readers are not within those of URL 3
+    ∷ refusedInQ (loading 1 2 ∷ []) (0x23 ∷ 0x02 ∷ 0x01 ∷ 0x00 ∷ []) 8
+    ∷ refusedInQ (loading 1 2 ∷ []) (0x23 ∷ 0x02 ∷ 0x01 ∷ 0x03 ∷ []) 8
+    -- the message endpoint of URL 1 is not among the writers of connection 3; case i has the other condition of 9
+    ∷ refusedInQ (loading 3 2 ∷ []) (0x23 ∷ 0x02 ∷ 0x03 ∷ 0x01 ∷ []) 9
+    ∷ []
+
+-- ---- connections, handlers and attached cookies
+
+-- script 1 requests URL 1 on connection 1 with handler 2, which adds 2 to register 0 and stores it as key 6
+abbrev pub requestAndHandle : List Words
+requestAndHandle = scriptOf 1 (sendRequest 1 1 2 ∷ end ∷ []) ∷ scriptOf 2 (constant 1 2 ∷ add 0 0 1 ∷ writeCookie 6 0 ∷ end ∷ []) ∷ []
+
+-- after its request
+abbrev pub handlerWaiting : List Words
+handlerWaiting = requesting 1 2 2 1 ∷ []
+
+-- host 0 has 7 for key 6 and 8 for key 7
+abbrev pub twoStored : List Words
+twoStored = valueIs 0 6 7 ∷ valueIs 0 7 8 ∷ keysAre 0 0xc0 ∷ []
+
+abbrev pub casesOfConnections : List Case
+casesOfConnections =
+    -- A load replaces what was pending.
+    inQ [] handlerWaiting (0x03 ∷ 0x02 ∷ 0x01 ∷ []) 0 0 (0x03 ∷ 0x02 ∷ 0x01 ∷ []) (loading 1 2 ∷ [])
+    -- A script's request replaces what was pending.
+    ∷ inQ requestAndHandle (loading 1 2 ∷ pageLoading) pageResponse 0 2 (0x0b ∷ 0x01 ∷ 0x01 ∷ 0x02 ∷ []) (requesting 1 2 2 1 ∷ [])
+    -- A script opens again the connection that it came on.
+    ∷ inQ requestAndHandle (loading 1 2 ∷ []) (0x0b ∷ 0x02 ∷ 0x01 ∷ 0x01 ∷ []) 0 2 (0x0b ∷ 0x01 ∷ 0x01 ∷ 0x02 ∷ []) (requesting 1 2 2 1 ∷ [])
+    -- The handler runs at the host of the page, which is host 0, and not at host 1, which answers and whose key 0 the response brings.
+    -- Register 0 is the value, and the sum wraps at 2^32.
+    ∷ inQ requestAndHandle handlerWaiting
+    (0x17 ∷ 0x01 ∷ 0x01 ∷ 0x01 ∷ 0x00 ∷ 0x00 ∷ 0x00 ∷ 0x09 ∷ 0xff ∷ 0xff ∷ 0xff ∷ 0xff ∷ [])
+    0 4 [] (valueIs 1 0 9 ∷ keysAre 1 0x01 ∷ valueIs 0 6 1 ∷ keysAre 0 0x40 ∷ [])
+    -- The redirect of a script's request keeps kind, origin and handler; its own request has the handler, and the cookie that it brought.
+    ∷ inQ requestAndHandle handlerWaiting (0x27 ∷ 0x01 ∷ 0x01 ∷ 0x01 ∷ 0x00 ∷ 0x00 ∷ 0x00 ∷ 0x09 ∷ 0x05 ∷ []) 0 0
+    (0x0f ∷ 0x05 ∷ 0x01 ∷ 0x01 ∷ 0x00 ∷ 0x00 ∷ 0x00 ∷ 0x09 ∷ 0x02 ∷ []) (requesting 1 2 2 5 ∷ valueIs 1 0 9 ∷ keysAre 1 0x01 ∷ [])
+    -- A redirect's cookies are the old URL's host's: key 6 of host 0. One that may not be stored, key 0, is passed over.
+    ∷ inQ [] (loading 1 2 ∷ [])
+    (0x27 ∷ 0x02 ∷ 0x01 ∷ 0x41 ∷ 0x00 ∷ 0x00 ∷ 0x00 ∷ 0x08 ∷ 0x00 ∷ 0x00 ∷ 0x00 ∷ 0x09 ∷ 0x01 ∷ []) 0 0
+    (0x03 ∷ 0x01 ∷ 0x01 ∷ []) (loading 1 1 ∷ valueIs 0 6 9 ∷ keysAre 0 0x40 ∷ [])
+    -- Cookies are attached by the URL's message endpoint: key 6 and not key 7. The readers of connection 1 hold those of both; connection 5 has none.
+    ∷ inQ [] twoStored (0x03 ∷ 0x02 ∷ 0x01 ∷ []) 0 0 (0x07 ∷ 0x02 ∷ 0x01 ∷ 0x40 ∷ 0x00 ∷ 0x00 ∷ 0x00 ∷ 0x07 ∷ []) (loading 1 2 ∷ twoStored)
+    ∷ inQ [] twoStored (0x03 ∷ 0x02 ∷ 0x05 ∷ []) 0 0 (0x07 ∷ 0x02 ∷ 0x05 ∷ 0x40 ∷ 0x00 ∷ 0x00 ∷ 0x00 ∷ 0x07 ∷ []) (loading 5 2 ∷ twoStored)
+    -- A present cookie of value 0 is attached.
+    ∷ inQ [] (keysAre 0 0x40 ∷ []) (0x03 ∷ 0x02 ∷ 0x01 ∷ []) 0 0 (0x07 ∷ 0x02 ∷ 0x01 ∷ 0x40 ∷ 0x00 ∷ 0x00 ∷ 0x00 ∷ 0x00 ∷ []) (loading 1 2 ∷ keysAre 0 0x40 ∷ [])
+    -- 7: a document's response to a script's request
+    ∷ refusedInQ handlerWaiting (0x0b ∷ 0x01 ∷ 0x01 ∷ 0x00 ∷ []) 7
+    -- One skip is taken, over two steps; the next is not, as register 1 is not 0. Key 8 ends the script.
+    ∷ pageRuns [] (skipIfZero 0 2 ∷ writeCookie 5 0 ∷ end ∷ constant 1 0x0102 ∷ skipIfZero 1 1 ∷ writeCookie 6 1 ∷ writeCookie 8 1 ∷ writeCookie 0 1 ∷ []) 5 []
+    (valueIs 0 6 0x0102 ∷ keysAre 0 0x40 ∷ [])
+    ∷ []
+
+-- 2: a policy with a word too few
+abbrev pub shortPolicy : List ℕ
+shortPolicy = take 543 policyP
+
+abbrev pub MoreCases : Type 0
+MoreCases = T (
+    allRight policyP otherExamples
+    && (allRight shortPolicy (fromEmpty (refused loadZero 2 [] ∷ []) ∷ [])
+    && allRight policyQ (casesOfConditions ++ casesOfConnections)))

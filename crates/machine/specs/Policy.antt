@@ -1,0 +1,143 @@
+-- The policy (document 01, "The policy"): its 544 words by name, when it is well formed, and the questions that are asked of it.
+-- A connection is document 01's lane; readers and writers are its readers and authors.
+use Prim.Native.Nat.{ℕ, _+_, _*_}
+use mathlib.Core.Bool.{Bool, not, _&&_, _||_}
+use mathlib.Core.List.{List}
+use lib.Dec.{ltb, eqb}
+use lib.ListN.{length, getD}
+use Rattle.labels.specs.Membership.{endpoints, allBelow}
+use Rattle.labels.specs.Sets.{holds, within}
+use Rattle.labels.specs.Addresses.{hosts, hostOf, messageEndpoint, eventEndpoint}
+
+-- ---- the words
+
+abbrev pub urlRows : ℕ
+urlRows = 64
+
+-- the keys of a host's cookies are 0 to 7
+abbrev pub hostKeys : ℕ
+hostKeys = 8
+
+abbrev pub connections : ℕ
+connections = 32
+
+abbrev pub cookieLabelsAt : ℕ
+cookieLabelsAt = 3 * urlRows
+
+abbrev pub connectionLabelsAt : ℕ
+connectionLabelsAt = cookieLabelsAt + 2 * (hosts * hostKeys)
+
+abbrev pub policyWords : ℕ
+policyWords = connectionLabelsAt + 3 * connections
+
+-- words 0 to 191: URL u has the words address, readers, writers
+abbrev pub urlAddress : List ℕ → ℕ → ℕ
+urlAddress p u = getD p (3 * u) 0
+
+abbrev pub urlReaders : List ℕ → ℕ → ℕ
+urlReaders p u = getD p (3 * u + 1) 0
+
+abbrev pub urlWriters : List ℕ → ℕ → ℕ
+urlWriters p u = getD p (3 * u + 2) 0
+
+-- the cookie with key k of host h
+abbrev pub cookieIndex : ℕ → ℕ → ℕ
+cookieIndex h k = hostKeys * h + k
+
+-- words 192 to 447: a cookie has the words readers, writers
+abbrev pub cookieReaders : List ℕ → ℕ → ℕ
+cookieReaders p c = getD p (cookieLabelsAt + 2 * c) 0
+
+abbrev pub cookieWriters : List ℕ → ℕ → ℕ
+cookieWriters p c = getD p (cookieLabelsAt + 2 * c + 1) 0
+
+-- words 448 to 543: connection n has the words readers, script readers, writers
+abbrev pub connectionReaders : List ℕ → ℕ → ℕ
+connectionReaders p n = getD p (connectionLabelsAt + 3 * n) 0
+
+abbrev pub scriptReaders : List ℕ → ℕ → ℕ
+scriptReaders p n = getD p (connectionLabelsAt + 3 * n + 1) 0
+
+abbrev pub connectionWriters : List ℕ → ℕ → ℕ
+connectionWriters p n = getD p (connectionLabelsAt + 3 * n + 2) 0
+
+-- a URL's host and endpoints are those of its address
+abbrev pub urlHost : List ℕ → ℕ → ℕ
+urlHost p u = hostOf (urlAddress p u)
+
+abbrev pub urlMessage : List ℕ → ℕ → ℕ
+urlMessage p u = messageEndpoint (urlAddress p u)
+
+abbrev pub urlEvent : List ℕ → ℕ → ℕ
+urlEvent p u = eventEndpoint (urlAddress p u)
+
+-- ---- well formed
+
+-- an empty row is 255, 0, 0
+abbrev pub noAddress : ℕ
+noAddress = 255
+
+unfoldable pub emptyRow : List ℕ → ℕ → Bool
+emptyRow p u = eqb (urlAddress p u) noAddress && (eqb (urlReaders p u) 0 && eqb (urlWriters p u) 0)
+
+unfoldable pub rowWellFormed : List ℕ → ℕ → Bool
+rowWellFormed p u = emptyRow p u || (ltb (urlAddress p u) endpoints && holds (urlReaders p u) (urlEvent p u))
+
+unfoldable pub connectionWellFormed : List ℕ → ℕ → Bool
+connectionWellFormed p n = within (scriptReaders p n) (connectionReaders p n)
+
+unfoldable pub wellFormed : List ℕ → Bool
+wellFormed p =
+    eqb (length p) policyWords
+    && (allBelow urlRows (rowWellFormed p)
+    && allBelow connections (connectionWellFormed p))
+
+-- ---- the questions
+
+-- a number that names a URL: it has a row that is not empty
+unfoldable pub isUrl : List ℕ → ℕ → Bool
+isUrl p u = ltb u urlRows && not (emptyRow p u)
+
+abbrev pub isConnection : ℕ → Bool
+isConnection n = ltb n connections
+
+-- a connection fits a URL (002, T-LOAD)
+unfoldable pub fits : List ℕ → ℕ → ℕ → Bool
+fits p n u = within (connectionReaders p n) (urlReaders p u) && holds (connectionWriters p n) (urlMessage p u)
+
+-- a cookie that a response or redirect on connection n delivers is stored
+unfoldable pub mayStore : List ℕ → ℕ → ℕ → Bool
+mayStore p n c = within (cookieReaders p c) (connectionReaders p n) && within (connectionWriters p n) (cookieWriters p c)
+
+-- The script of a response on connection n has that connection's script readers and writers: document 01's S and J.
+
+-- step 3: it reads a cookie
+unfoldable pub mayRead : List ℕ → ℕ → ℕ → Bool
+mayRead p n c = within (scriptReaders p n) (cookieReaders p c) && within (cookieWriters p c) (connectionWriters p n)
+
+-- step 4: it writes a cookie
+unfoldable pub mayWrite : List ℕ → ℕ → ℕ → Bool
+mayWrite p n c = within (cookieReaders p c) (scriptReaders p n) && within (connectionWriters p n) (cookieWriters p c)
+
+-- step 5: it requests URL u on connection m
+unfoldable pub maySend : List ℕ → ℕ → ℕ → ℕ → Bool
+maySend p n u m =
+    holds (scriptReaders p n) (urlEvent p u)
+    && (within (connectionReaders p m) (scriptReaders p n)
+    && (fits p m u
+    && (within (connectionWriters p n) (connectionWriters p m)
+    && within (connectionWriters p n) (urlWriters p u))))
+
+-- what 8 and 9 ask of a load of u on connection n, each in the order of its conditions
+unfoldable pub loadReaders : List ℕ → ℕ → ℕ → Bool
+loadReaders p n u = within (connectionReaders p n) (urlReaders p u)
+
+unfoldable pub loadWriters : List ℕ → ℕ → ℕ → Bool
+loadWriters p n u = holds (connectionWriters p n) (urlMessage p u)
+
+-- and of a redirect of connection n to t
+unfoldable pub redirectReaders : List ℕ → ℕ → ℕ → Bool
+redirectReaders p n t = holds (connectionReaders p n) (urlEvent p t) && within (connectionReaders p n) (urlReaders p t)
+
+unfoldable pub redirectWriters : List ℕ → ℕ → ℕ → Bool
+redirectWriters p n t = holds (connectionWriters p n) (urlMessage p t) && within (connectionWriters p n) (urlWriters p t)

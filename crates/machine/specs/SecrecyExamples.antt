@@ -1,0 +1,174 @@
+-- That demand 3 says something: lists that a set cannot tell apart though much differs, and lists that it does tell apart. The proofs, by
+-- computing, are in proofs/Telling.antt.
+use Prim.Native.Nat.{ℕ}
+use mathlib.Core.Bool.{Bool, not, _&&_}
+use mathlib.Core.List.{List, [], _∷_, _++_, map}
+use lib.Dec.{T, eqb}
+use lib.ListN.{length, replicate}
+use Rattle.records.specs.declared.Record.{Record}
+use Rattle.records.specs.Codec.{bytesOf}
+use Rattle.machine.specs.Policy.{cookieIndex}
+use Rattle.machine.specs.Session.{cookieValue, Cookie}
+use Rattle.machine.specs.Scripts.{end, constant, writeCookie, sendRequest}
+use Rattle.machine.specs.Machine.{Event, Load, DocumentResponse, ScriptResponse, Redirect}
+use Rattle.machine.specs.Cases.{url, cookieLabel, connection, policyWith, scriptsWith, scriptOf, sameNumbers}
+use Rattle.machine.specs.Secrecy.{Item, Trace, run, remaining, Sight, sights}
+
+-- ---- what is compared, as lists of numbers
+
+-- Different events have different lists: a number for each kind, then its fields, with the count of cookies before them.
+abbrev pub cookieNumbers : List Cookie → List ℕ
+cookieNumbers [] = []
+cookieNumbers (c ∷ cs) = c .key ∷ c .value ∷ cookieNumbers cs
+
+abbrev pub eventNumbers : Event → List ℕ
+eventNumbers (Load u n) = 0 ∷ u ∷ n ∷ []
+eventNumbers (DocumentResponse u n cs x) = 1 ∷ u ∷ n ∷ x ∷ length cs ∷ cookieNumbers cs
+eventNumbers (ScriptResponse u n cs v) = 2 ∷ u ∷ n ∷ v ∷ length cs ∷ cookieNumbers cs
+eventNumbers (Redirect u n cs t) = 3 ∷ u ∷ n ∷ t ∷ length cs ∷ cookieNumbers cs
+
+abbrev pub eventsNumbers : List Event → List ℕ
+eventsNumbers [] = []
+eventsNumbers (e ∷ es) = eventNumbers e ++ eventsNumbers es
+
+-- and so have different sights
+abbrev pub sightNumbers : Sight → List ℕ
+sightNumbers v = v .kind ∷ v .url ∷ v .connection ∷ v .handler ∷ length (v .cookies) ∷ cookieNumbers (v .cookies)
+
+abbrev pub sightsNumbers : List Sight → List ℕ
+sightsNumbers [] = []
+sightsNumbers (v ∷ vs) = sightNumbers v ++ sightsNumbers vs
+
+-- ---- a policy, scripts and a set
+
+-- URL 0, at host 0, is read by host 0 alone. URLs 1 and 2, http and https at host 1, are read by all. Connection 0 has the readers of URL 0.
+-- Cookie (1,0) is read by http at host 1, and cookie (1,1) by https at host 1.
+abbrev pub policyTwoHosts : List ℕ
+policyTwoHosts = policyWith (
+    url 0 0 0x00000001 0xffffffff
+    ∷ url 1 1 0xffffffff 0xffffffff
+    ∷ url 2 17 0xffffffff 0xffffffff
+    ∷ connection 0 0x00000001 0x00000001 0x00000001
+    ∷ connection 1 0x00020003 0x00020003 0x00020003
+    ∷ cookieLabel 0 0 0x00000001 0x00000001
+    ∷ cookieLabel 1 0 0x00000002 0x00020003
+    ∷ cookieLabel 1 1 0x00020000 0x00020003
+    ∷ [])
+
+-- Script 1 stores 9 in its page's cookie 0 and requests URL 0 on connection 0. Script 2 requests URL 1 on connection 1.
+abbrev pub scriptsTwoHosts : List ℕ
+scriptsTwoHosts = scriptsWith (
+    scriptOf 1 (constant 1 9 ∷ writeCookie 0 1 ∷ sendRequest 0 0 0 ∷ end ∷ [])
+    ∷ scriptOf 2 (sendRequest 1 1 0 ∷ end ∷ [])
+    ∷ [])
+
+-- http at host 1: URL 0, connection 0, cookie (0,0) and cookie (1,1) are hidden from it
+abbrev pub httpHostOne : ℕ
+httpHostOne = 0x00000002
+
+-- a list of records, with a byte that fills buffers of a length
+abbrev pub items : ℕ → ℕ → List (List ℕ) → List Item
+items room filler records = map (λ r. record { bytes = r; buffer = replicate room filler }) records
+
+-- what remains of a list, and what the set sees of a run, under a policy
+abbrev pub left : List ℕ → List Item → List ℕ
+left p is = eventsNumbers (remaining httpHostOne p is)
+
+abbrev pub seen : List ℕ → Trace → List ℕ
+seen p r = sightsNumbers (sights httpHostOne p (r .requests))
+
+abbrev pub sentBytes : List Record → List ℕ
+sentBytes [] = []
+sentBytes (r ∷ rs) = bytesOf r ++ sentBytes rs
+
+-- ---- two lists that the set cannot tell apart
+
+-- Load 1 on connection 1. Hidden: load 0 on connection 0, and its response with script 1. The response on connection 1, with script 2, brings
+-- 7 for cookie (1,0) and, hidden, 8 for cookie (1,1). Load 2 on connection 1.
+abbrev pub withHidden : List Item
+withHidden = items 1184 0xee (
+    (0x03 ∷ 0x01 ∷ 0x01 ∷ [])
+    ∷ (0x03 ∷ 0x00 ∷ 0x00 ∷ [])
+    ∷ (0x0b ∷ 0x00 ∷ 0x00 ∷ 0x01 ∷ [])
+    ∷ (0x0f ∷ 0x01 ∷ 0x01 ∷ 0x03 ∷ 0x00 ∷ 0x00 ∷ 0x00 ∷ 0x07 ∷ 0x00 ∷ 0x00 ∷ 0x00 ∷ 0x08 ∷ 0x02 ∷ [])
+    ∷ (0x03 ∷ 0x02 ∷ 0x01 ∷ [])
+    ∷ [])
+
+-- The same without what is hidden, and with other buffers.
+abbrev pub withoutHidden : List Item
+withoutHidden = items 1200 0x00 (
+    (0x03 ∷ 0x01 ∷ 0x01 ∷ [])
+    ∷ (0x0f ∷ 0x01 ∷ 0x01 ∷ 0x01 ∷ 0x00 ∷ 0x00 ∷ 0x00 ∷ 0x07 ∷ 0x02 ∷ [])
+    ∷ (0x03 ∷ 0x02 ∷ 0x01 ∷ [])
+    ∷ [])
+
+-- The runs end in different states: the hidden script stored 9 in cookie (0,0), and 8 came for cookie (1,1).
+abbrev pub values : Trace → List ℕ
+values r = map (cookieValue (r .state)) (cookieIndex 0 0 ∷ cookieIndex 1 0 ∷ cookieIndex 1 1 ∷ [])
+
+abbrev pub statesDiffer : Trace → Trace → Bool
+statesDiffer a b = sameNumbers (values a) (9 ∷ 7 ∷ 8 ∷ []) && sameNumbers (values b) (0 ∷ 7 ∷ 0 ∷ [])
+
+-- They send different bytes. Each record of both sends one request, as none that is refused does, so all are accepted. With what is hidden
+-- there are a request of the hidden load and one of its response's script, and cookie (1,1) is in the last request.
+abbrev pub requestsDiffer : Trace → Trace → Bool
+requestsDiffer a b =
+    sameNumbers (sentBytes (a .requests)) (
+    0x03 ∷ 0x01 ∷ 0x01
+    ∷ 0x03 ∷ 0x00 ∷ 0x00
+    ∷ 0x0f ∷ 0x00 ∷ 0x00 ∷ 0x01 ∷ 0x00 ∷ 0x00 ∷ 0x00 ∷ 0x09 ∷ 0x00
+    ∷ 0x0f ∷ 0x01 ∷ 0x01 ∷ 0x01 ∷ 0x00 ∷ 0x00 ∷ 0x00 ∷ 0x07 ∷ 0x00
+    ∷ 0x07 ∷ 0x02 ∷ 0x01 ∷ 0x02 ∷ 0x00 ∷ 0x00 ∷ 0x00 ∷ 0x08
+    ∷ [])
+    && sameNumbers (sentBytes (b .requests)) (
+    0x03 ∷ 0x01 ∷ 0x01
+    ∷ 0x0f ∷ 0x01 ∷ 0x01 ∷ 0x01 ∷ 0x00 ∷ 0x00 ∷ 0x00 ∷ 0x07 ∷ 0x00
+    ∷ 0x03 ∷ 0x02 ∷ 0x01
+    ∷ [])
+
+-- Once what is hidden is struck the lists are equal, and three records are left.
+abbrev pub struckAlike : List ℕ → Bool
+struckAlike p = sameNumbers (left p withHidden) (left p withoutHidden) && eqb (length (remaining httpHostOne p withHidden)) 3
+
+-- The set sees the same of both: three requests, the second with cookie (1,0).
+abbrev pub threeSights : List ℕ
+threeSights =
+    0x03 ∷ 1 ∷ 1 ∷ 0 ∷ 0
+    ∷ 0x0b ∷ 1 ∷ 1 ∷ 0 ∷ 1 ∷ 0 ∷ 7
+    ∷ 0x03 ∷ 2 ∷ 1 ∷ 0 ∷ 0
+    ∷ []
+
+abbrev pub seenAlike : List ℕ → Trace → Trace → Bool
+seenAlike p a b = sameNumbers (seen p a) threeSights && sameNumbers (seen p b) threeSights
+
+unfoldable pub hiddenUnseen : List ℕ → Trace → Trace → Bool
+hiddenUnseen p a b = statesDiffer a b && (requestsDiffer a b && (struckAlike p && seenAlike p a b))
+
+-- ---- lists that the set tells apart
+
+-- A cookie that is not hidden, (1,0), with a value; a request of the response's script carries it.
+abbrev pub bringing : ℕ → List Item
+bringing v = items 1184 0xee (
+    (0x03 ∷ 0x01 ∷ 0x01 ∷ [])
+    ∷ (0x0f ∷ 0x01 ∷ 0x01 ∷ 0x01 ∷ 0x00 ∷ 0x00 ∷ 0x00 ∷ v ∷ 0x02 ∷ [])
+    ∷ [])
+
+-- Lists are told apart: they differ once what is hidden is struck, and the set sees other requests of their runs.
+unfoldable pub toldApart : List ℕ → List Item → Trace → List Item → Trace → Bool
+toldApart p is a js b = not (sameNumbers (left p is) (left p js)) && not (sameNumbers (seen p a) (seen p b))
+
+-- ---- the claim
+
+-- The runs of two lists that the set cannot tell apart; and it tells the second of these from a list without the last load, and that one from
+-- a list in which the cookie has another value.
+unfoldable pub saysSomething : List ℕ → Trace → Trace → Trace → Trace → Bool
+saysSomething p a b c d =
+    hiddenUnseen p a b
+    && (toldApart p withoutHidden b (bringing 7) c
+    && toldApart p (bringing 7) c (bringing 8) d)
+
+abbrev pub ran : List Item → Trace
+ran is = run policyTwoHosts scriptsTwoHosts is
+
+abbrev pub SaysSomething : Type 0
+SaysSomething = T (saysSomething policyTwoHosts (ran withHidden) (ran withoutHidden) (ran (bringing 7)) (ran (bringing 8)))

@@ -1,0 +1,1 @@
+// No code: the definitions are in specs/, the theorems in proofs/.
