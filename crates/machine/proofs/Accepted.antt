@@ -31,7 +31,7 @@ pub record Passed (p scripts s bytes out : List ℕ) : Type 0 where
   pub readers : T (readersAllow p (eventIn bytes))
   pub writers : T (writersAllow p (eventIn bytes))
 
--- the same for a number that stands for its own refusal
+-- the number that decoding answers is its own refusal
 read-passed : (m y : ℕ) → branch (not (eqb m 0)) m y ≡ 0 → T (eqb m 0) × (y ≡ 0)
 unfolding branch
 read-passed zero y e = (tt, e)

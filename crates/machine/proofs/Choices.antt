@@ -1,10 +1,12 @@
 -- The laws of a choice, and of what a test keeps of a list.
 use Prim.Native.Nat.{ℕ}
-use mathlib.Core.Bool.{Bool, true, false, not, true≢false, false≢true}
+use mathlib.Core.Bool.{Bool, true, false, not, _&&_, true≢false, false≢true}
 use mathlib.Core.List.{List, [], _∷_, _++_, map}
 use mathlib.Core.Logic.{_⊎_, inl, inr}
 use mathlib.Core.Path.{_≡_, refl, ap, subst}
 use lib.Dec.{T, ltb}
+use lib.Ieee.Fits.{and-i}
+use store.Enc.{and-l, and-r}
 use Rattle.machine.specs.Choice.{branch, keep}
 
 -- a test passes or fails
@@ -15,6 +17,16 @@ either false = inr tt
 pub is-true : (b : Bool) → T b → b ≡ true
 is-true true t = refl
 is-true false t = absurd t
+
+-- for `search`: the conjuncts of a passed test, and a test joined of them
+pub ruleset parts = (and-l, and-r)
+
+pub ruleset joined = (and-l, and-r, and-i)
+
+-- joined with a test, two others need to be equal only where it passes
+pub and-alike : (x : Bool) {y z : Bool} → (T x → y ≡ z) → x && y ≡ x && z
+and-alike true f = f tt
+and-alike false f = refl
 
 module _ {A : Type 0} where
   pub branch-true : (b : Bool) (x y : A) → T b → branch b x y ≡ x

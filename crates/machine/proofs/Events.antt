@@ -1,15 +1,17 @@
--- What holds of each cookie of a record, and of its value, holds of what its event brings. The keys of an event's cookies are below 8.
+-- What holds of each cookie of a record, and of its value, holds of what its event brings. The keys of an event's cookies are below 8, and
+-- where its numbers name something its connection is below 32.
 use Prim.Native.Nat.{ℕ, _<_}
 use native.Mathlib.Omega.{arith}
 use mathlib.Core.List.{List}
+use lib.Dec.{T, ltb→lt}
 use lib.ListN.{getD}
 use Rattle.records.specs.declared.Record.{Record}
 use Rattle.records.specs.Layout.{keyNumbers}
 use Rattle.machine.specs.Choice.{keep}
-use Rattle.machine.specs.Policy.{hostKeys}
+use Rattle.machine.specs.Policy.{hostKeys, connections}
 use Rattle.machine.specs.Session.{has, Cookie}
-use Rattle.machine.specs.Machine.{Event, Load, DocumentResponse, ScriptResponse, Redirect, cookiesOf, eventOf}
-use Rattle.machine.proofs.Choices.{one}
+use Rattle.machine.specs.Machine.{Event, Load, DocumentResponse, ScriptResponse, Redirect, cookiesOf, eventOf, named}
+use Rattle.machine.proofs.Choices.{parts, one}
 use Rattle.machine.proofs.Lists.{Each, each-map, each-keep}
 
 abbrev pub EventCookies : (Cookie → Type 0) → Event → Type 0
@@ -52,3 +54,17 @@ EventKeys = EventCookies (λ (c : Cookie). c .key < hostKeys)
 
 pub event-keys : (r : Record) → EventKeys (eventOf r)
 event-keys r = event-cookies r (λ (c : Cookie). c .key < hostKeys) (omega arith)
+
+-- the connection
+abbrev pub connectionOf : Event → ℕ
+connectionOf (Load u n) = n
+connectionOf (DocumentResponse u n cs x) = n
+connectionOf (ScriptResponse u n cs v) = n
+connectionOf (Redirect u n cs t) = n
+
+pub connection-below : (p : List ℕ) (e : Event) → T (named p e) → connectionOf e < connections
+unfolding named
+connection-below p (Load u n) t = ltb→lt n connections (search parts)
+connection-below p (DocumentResponse u n cs x) t = ltb→lt n connections (search parts)
+connection-below p (ScriptResponse u n cs v) t = ltb→lt n connections (search parts)
+connection-below p (Redirect u n cs to) t = ltb→lt n connections (search parts)

@@ -17,11 +17,11 @@ use Rattle.machine.specs.Policy.{hostKeys, connections, cookieIndex, url
 use Rattle.machine.specs.Session.{presenceAt, cookieValue, connectionWord, free, documentKind, scriptKind, packed, kindOf, originOf, handlerOf, urlOf, urlSound, Cookie, setCookie, storeCookie, storeCookies, setConnection, request, Effects, send}
 use Rattle.machine.specs.Scripts.{stepLimit, scriptAt, Step, end, constant, add, readCookie, writeCookie, sendRequest, skipIfZero, stepOf, stepAt, Progress, register, isScript, ended, goesOn, goesOnAfter, step, stopped, followed, runFrom, startingWith, runScript}
 use Rattle.machine.specs.Machine.{Event, Load, DocumentResponse, ScriptResponse, Redirect, named, pending, awaited, readersAllow, writersAllow, perform}
-use Rattle.machine.proofs.Choices.{one}
+use Rattle.machine.proofs.Choices.{parts, joined, one}
 use Rattle.machine.proofs.Lists.{Each, each-append, each-set, each-at}
 use Rattle.machine.proofs.Accepted.{eventIn, Passed}
 use Rattle.machine.proofs.Events.{KeysBelow, EventKeys, event-keys, EventCookies, event-cookies, EventValue, event-value}
-use Rattle.machine.proofs.SoundStates.{parts, joined, Sound, sound-of, cookie-kept, connection-kept, connection-freed, openFields, word-fields, fields-word, fields-moved}
+use Rattle.machine.proofs.SoundStates.{Sound, sound-of, cookie-kept, connection-kept, connection-freed, openFields, word-fields, fields-word, fields-moved}
 
 -- Q and R that are kept: Q of 0 and of a sum, R of a request on an open connection
 pub record Keeps (p : List ℕ) (Q : ℕ → Type 0) (R : Record → Type 0) : Type 0 where

@@ -19,5 +19,5 @@ pub mod Noninterference
 pub mod Readers
 pub mod Secrecy
 pub mod Computing
-pub mod CaseList
-pub mod Telling
+pub mod Cases
+pub mod SecrecyExamples

@@ -25,7 +25,7 @@ use Rattle.machine.proofs.Events.{event-keys}
 use Rattle.machine.proofs.Soundness.{sound-kept}
 use Rattle.machine.proofs.WordSizes.{words-kept}
 use Rattle.machine.proofs.Sending.{sent-reads-back}
-use Rattle.machine.proofs.Observer.{Observer, Laws, Agree, sightsBy, sights-append}
+use Rattle.machine.proofs.Observer.{Observer, Laws, Agree, observationsBy, observations-append}
 use Rattle.machine.proofs.Unwinding.{Alike, Quiet, quiet-alike, stopped-quiet}
 use Rattle.machine.proofs.Reactions.{seesEvent, seenOf, react-alike, react-quiet}
 
@@ -70,7 +70,7 @@ module _ (p scripts : List ℕ) (v : Observer) (laws : Laws p v) (good : T (well
   unfolding reactAll stopped
   one-event s t e a = record {
     states = a .states;
-    requests = a .requests ∙ ap (sightsBy v) (sym (append-nil (react p scripts t (seenOf p v e) .sent)));
+    requests = a .requests ∙ ap (observationsBy v) (sym (append-nil (react p scripts t (seenOf p v e) .sent)));
   }
 
   no-event : (s t : List ℕ) (e : Effects) → Agree v s t → Quiet v s e → Alike v e (reactAll p scripts t [])
@@ -98,7 +98,7 @@ module _ (p scripts : List ℕ) (v : Observer) (laws : Laws p v) (good : T (well
 
   pub run-alike : (is : List Item) (s t : List ℕ) → Feedable is → T (sound p s) → T (areWords s) → Agree v s t
       → Agree v (feedAll p scripts s is .state) (reactAll p scripts t (seenOfItems p v is) .state)
-      × (sightsBy v (feedAll p scripts s is .requests) ≡ sightsBy v (reactAll p scripts t (seenOfItems p v is) .sent))
+      × (observationsBy v (feedAll p scripts s is .requests) ≡ observationsBy v (reactAll p scripts t (seenOfItems p v is) .sent))
   unfolding feedAll seenOfItems reactAll stopped feed
   run-alike [] s t fed ok words a = (a, refl)
   run-alike (i ∷ is) s t fed ok words a =
@@ -111,9 +111,9 @@ module _ (p scripts : List ℕ) (v : Observer) (laws : Laws p v) (good : T (well
       let rest = run-alike is next after (fed .2) (sound-kept p scripts s (i .bytes) (i .buffer) ok) (words-kept p scripts s (i .bytes) (i .buffer) typed words (fed .0)) (first .states) in
       let later = feedAll p scripts next is .requests in (
         subst (Agree v (feedAll p scripts next is .state)) (sym (append-state p scripts t es (seenOfItems p v is))) (rest .0),
-        ap (λ (l : List Record). sightsBy v (l ++ later)) read
-            ∙ sights-append v (done .sent) later
+        ap (λ (l : List Record). observationsBy v (l ++ later)) read
+            ∙ observations-append v (done .sent) later
             ∙ ap₂ _++_ (first .requests) (rest .1)
-            ∙ sym (sights-append v (reactAll p scripts t es .sent) (reactAll p scripts after (seenOfItems p v is) .sent))
-            ∙ ap (sightsBy v) (sym (append-sent p scripts t es (seenOfItems p v is))),
+            ∙ sym (observations-append v (reactAll p scripts t es .sent) (reactAll p scripts after (seenOfItems p v is) .sent))
+            ∙ ap (observationsBy v) (sym (append-sent p scripts t es (seenOfItems p v is))),
       )

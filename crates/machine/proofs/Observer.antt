@@ -15,7 +15,7 @@ use Rattle.machine.specs.Choice.{keep}
 use Rattle.machine.specs.Policy.{hostKeys, connections, cookieIndex, cookieReaders, urlHost, urlMessage, isUrl, mayStore, mayRead, mayWrite, maySend, loadReaders, redirectReaders, redirectWriters}
 use Rattle.machine.specs.Session.{stateWords, cookieValue, present, has, connectionWord, setCookie, setConnection}
 use Rattle.machine.specs.Machine.{plainMap, cookiesOf}
-use Rattle.machine.specs.Secrecy.{Sight}
+use Rattle.machine.specs.Secrecy.{Observation}
 use Rattle.machine.proofs.Choices.{keep-append, map-append}
 use Rattle.machine.proofs.StateWords.{length-cookie, length-connection, value-here, value-elsewhere, present-here, present-elsewhere, connection-past-cookie, connection-here, connection-elsewhere, value-past-connection, presence-past-connection}
 
@@ -46,8 +46,8 @@ pub record Laws (p : List ℕ) (v : Observer) : Type 0 where
 
 -- ---- requests as an observer sees them
 
-unfoldable pub sightBy : Observer → Record → Sight
-sightBy v r = record {
+unfoldable pub observationBy : Observer → Record → Observation
+observationBy v r = record {
   kind = plainMap (r .map);
   url = r .url;
   connection = r .connection;
@@ -55,12 +55,12 @@ sightBy v r = record {
   cookies = keep (λ c. v .seesAttached (r .url) (c .key)) (cookiesOf r);
 }
 
-unfoldable pub sightsBy : Observer → List Record → List Sight
-sightsBy v rs = map (sightBy v) (keep (λ r. v .seesRequest (r .url)) rs)
+unfoldable pub observationsBy : Observer → List Record → List Observation
+observationsBy v rs = map (observationBy v) (keep (λ r. v .seesRequest (r .url)) rs)
 
-pub sights-append : (v : Observer) (rs qs : List Record) → sightsBy v (rs ++ qs) ≡ sightsBy v rs ++ sightsBy v qs
-unfolding sightsBy
-sights-append v rs qs = ap (map (sightBy v)) (keep-append (λ r. v .seesRequest (r .url)) rs qs) ∙ map-append (sightBy v) (keep (λ r. v .seesRequest (r .url)) rs) _
+pub observations-append : (v : Observer) (rs qs : List Record) → observationsBy v (rs ++ qs) ≡ observationsBy v rs ++ observationsBy v qs
+unfolding observationsBy
+observations-append v rs qs = ap (map (observationBy v)) (keep-append (λ r. v .seesRequest (r .url)) rs qs) ∙ map-append (observationBy v) (keep (λ r. v .seesRequest (r .url)) rs) _
 
 -- ---- states that agree
 

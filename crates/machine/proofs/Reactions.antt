@@ -5,18 +5,18 @@ use native.Mathlib.Omega.{arith}
 use mathlib.Core.Bool.{Bool, not, _&&_}
 use mathlib.Core.List.{List, [], _∷_}
 use mathlib.Core.Path.{_≡_, refl, ap, ap₂, subst}
-use lib.Dec.{T, eqb, ltb→lt}
+use lib.Dec.{T, eqb}
 use lib.ListN.{length}
 use store.Enc.{and-l, and-r}
 use Rattle.labels.specs.Addresses.{hosts}
 use Rattle.machine.specs.Choice.{keep}
 use Rattle.machine.specs.Policy.{hostKeys, connections, cookieIndex, urlHost, isUrl, isConnection, mayStore}
 use Rattle.machine.specs.Session.{stateWords, free, documentKind, scriptKind, connectionWord, kindOf, originOf, handlerOf, urlOf, Cookie, storeCookie, storeCookies, setConnection, send}
-use Rattle.machine.specs.Scripts.{isScript, runScript}
+use Rattle.machine.specs.Scripts.{runScript}
 use Rattle.machine.specs.Machine.{Event, Load, DocumentResponse, ScriptResponse, Redirect, named, pending, awaited, readersAllow, writersAllow, perform}
 use Rattle.machine.proofs.Choices.{one, two}
 use Rattle.machine.proofs.Accepted.{react}
-use Rattle.machine.proofs.Events.{KeysBelow, EventKeys}
+use Rattle.machine.proofs.Events.{KeysBelow, EventKeys, connection-below}
 use Rattle.machine.proofs.Observer.{Observer, Laws, Agree, agree-refl, agree-trans, agree-sym, unseen-cookie, unseen-connection, same-cookie, same-connection}
 use Rattle.machine.proofs.Unwinding.{Alike, Quiet, unseen, stopped-alike, stopped-quiet, after-quiet, send-alike, send-quiet, script-alike, script-quiet}
 
@@ -103,9 +103,9 @@ module _ (p : List ℕ) (v : Observer) (laws : Laws p v) where
         (unseen (v .seesConnection n) (v .seesLoad u) (laws .loads n u r) hidden)
         (unseen (v .seesRequest u) (v .seesLoad u) (laws .requests u (and-l (isUrl p u) (isConnection n) ok)) hidden)
     perform-quiet (DocumentResponse u n cs x) s ok below hidden whole r w =
-        respond-quiet n u _ x 0 cs s (ltb→lt n connections (and-l (isConnection n) (isScript x) (and-r (isUrl p u) (isConnection n && isScript x) ok))) hidden below whole
+        respond-quiet n u _ x 0 cs s (connection-below p (DocumentResponse u n cs x) ok) hidden below whole
     perform-quiet (ScriptResponse u n cs value) s ok below hidden whole r w =
-        respond-quiet n u _ _ value cs s (ltb→lt n connections (and-r (isUrl p u) (isConnection n) ok)) hidden below whole
+        respond-quiet n u _ _ value cs s (connection-below p (ScriptResponse u n cs value) ok) hidden below whole
     perform-quiet (Redirect u n cs t) s ok below hidden whole r w =
         let a = store-quiet n (urlHost p u) (omega arith) hidden cs below s whole in
         after-quiet v s _ _ a
@@ -113,23 +113,23 @@ module _ (p : List ℕ) (v : Observer) (laws : Laws p v) where
 
     perform-alike : (e : Event) (s t : List ℕ) → T (named p e) → EventKeys e → T (seesEvent v e) → Agree v s t
         → Alike v (perform p scripts s e) (perform p scripts t (seenOf p v e))
-    unfolding perform named seesEvent seenOf
-    perform-alike (Load u n) s t ok below seen a = send-alike p v laws n documentKind 0 0 u s t (ltb→lt n connections (and-r (isUrl p u) (isConnection n) ok)) a
+    unfolding perform seesEvent seenOf
+    perform-alike (Load u n) s t ok below seen a = send-alike p v laws n documentKind 0 0 u s t (connection-below p (Load u n) ok) a
     perform-alike (DocumentResponse u n cs x) s t ok below seen a =
-        let l = ltb→lt n connections (and-l (isConnection n) (isScript x) (and-r (isUrl p u) (isConnection n && isScript x) ok)) in
+        let l = connection-below p (DocumentResponse u n cs x) ok in
         let s′ = answered n u cs s in
         let t′ = answered n u (seenCookies v (urlHost p u) cs) t in
         subst (λ (w : ℕ). Alike v (runScript p scripts n (urlOf (connectionWord s n)) x 0 s′) (runScript p scripts n (urlOf w) x 0 t′)) (a .words n l seen)
         (script-alike p v laws scripts n (urlOf (connectionWord s n)) x 0 s′ t′ (answered-alike n u cs s t l below a))
     perform-alike (ScriptResponse u n cs value) s t ok below seen a =
-        let l = ltb→lt n connections (and-r (isUrl p u) (isConnection n) ok) in
+        let l = connection-below p (ScriptResponse u n cs value) ok in
         let s′ = answered n u cs s in
         let t′ = answered n u (seenCookies v (urlHost p u) cs) t in
         let word = connectionWord s n in
         subst (λ (w : ℕ). Alike v (runScript p scripts n (originOf word) (handlerOf word) value s′) (runScript p scripts n (originOf w) (handlerOf w) value t′)) (a .words n l seen)
         (script-alike p v laws scripts n (originOf word) (handlerOf word) value s′ t′ (answered-alike n u cs s t l below a))
     perform-alike (Redirect u n cs to) s t ok below seen a =
-        let l = ltb→lt n connections (and-l (isConnection n) (isUrl p to) (and-r (isUrl p u) (isConnection n && isUrl p to) ok)) in
+        let l = connection-below p (Redirect u n cs to) ok in
         let s′ = storeCookies p n (urlHost p u) cs s in
         let t′ = storeCookies p n (urlHost p u) (seenCookies v (urlHost p u) cs) t in
         let word = connectionWord s n in
@@ -138,16 +138,16 @@ module _ (p : List ℕ) (v : Observer) (laws : Laws p v) where
 
     -- the tests of the two sides are the same
     awaited-alike : (e : Event) (s t : List ℕ) → T (named p e) → T (seesEvent v e) → Agree v s t → awaited s e ≡ awaited t (seenOf p v e)
-    unfolding named seesEvent seenOf awaited pending
+    unfolding seesEvent seenOf awaited pending
     awaited-alike (Load u n) s t ok seen a = refl
     awaited-alike (DocumentResponse u n cs x) s t ok seen a =
         ap (λ (w : ℕ). not (eqb w free) && eqb (urlOf w) u && eqb (kindOf w) documentKind)
-        (a .words n (ltb→lt n connections (and-l (isConnection n) (isScript x) (and-r (isUrl p u) (isConnection n && isScript x) ok))) seen)
+        (a .words n (connection-below p (DocumentResponse u n cs x) ok) seen)
     awaited-alike (ScriptResponse u n cs value) s t ok seen a =
-        ap (λ (w : ℕ). not (eqb w free) && eqb (urlOf w) u && eqb (kindOf w) scriptKind) (a .words n (ltb→lt n connections (and-r (isUrl p u) (isConnection n) ok)) seen)
+        ap (λ (w : ℕ). not (eqb w free) && eqb (urlOf w) u && eqb (kindOf w) scriptKind) (a .words n (connection-below p (ScriptResponse u n cs value) ok) seen)
     awaited-alike (Redirect u n cs to) s t ok seen a =
         ap (λ (w : ℕ). not (eqb w free) && eqb (urlOf w) u)
-        (a .words n (ltb→lt n connections (and-l (isConnection n) (isUrl p to) (and-r (isUrl p u) (isConnection n && isUrl p to) ok))) seen)
+        (a .words n (connection-below p (Redirect u n cs to) ok) seen)
 
     allowed-alike : (e : Event) → readersAllow p e && writersAllow p e ≡ readersAllow p (seenOf p v e) && writersAllow p (seenOf p v e)
     unfolding seenOf readersAllow writersAllow

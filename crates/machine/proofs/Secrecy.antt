@@ -18,13 +18,13 @@ use Rattle.machine.specs.Session.{stateWords, emptyState, Cookie}
 use Rattle.machine.specs.Scripts.{tableBytes, stopped}
 use Rattle.machine.specs.Machine.{Event, Load, DocumentResponse, ScriptResponse, Redirect, plainMap, cookiesOf, eventOf, named, refusal, outcome, feed}
 use Rattle.machine.specs.Guarantees.{areWords}
-use Rattle.machine.specs.Secrecy.{Item, Feedable, feedAll, run, shownCookies, shown, shownRecord, shownRecords, remaining, sightOf, sights, SameView, Secrecy, NothingUnread}
+use Rattle.machine.specs.Secrecy.{Item, Feedable, feedAll, run, shownCookies, shown, shownRecord, shownRecords, remaining, observationOf, observations, SameView, Secrecy, NothingUnread}
 use Rattle.machine.proofs.Choices.{either, branch-true, branch-false}
 use Rattle.machine.proofs.Accepted.{all-passed}
 use Rattle.machine.proofs.Soundness.{empty-sound}
 use Rattle.machine.proofs.WordSizes.{words-kept}
 use Rattle.machine.proofs.Sending.{sent-reads-back}
-use Rattle.machine.proofs.Observer.{Agree, sightBy, sightsBy, agree-refl, agree-sym, agree-trans}
+use Rattle.machine.proofs.Observer.{Agree, observationBy, observationsBy, agree-refl, agree-sym, agree-trans}
 use Rattle.machine.proofs.Reactions.{seenCookies, seesEvent, seenOf}
 use Rattle.machine.proofs.Noninterference.{reactAll, seenOfRecord, seenOfItems, run-alike}
 use Rattle.machine.proofs.Readers.{readers, readers-laws}
@@ -44,13 +44,13 @@ map-alike f g e [] = refl
 map-alike f g e (x ∷ xs) = ap₂ (λ y l. y ∷ l) (e x) (map-alike f g e xs)
 
 module _ (set : ℕ) (p : List ℕ) where
-  same-sight : (r : Record) → sightBy (readers set p) r ≡ sightOf set p r
-  unfolding sightBy sightOf readers
-  same-sight r = ap (λ (cs : List Cookie). record { kind = plainMap (r .map); url = r .url; connection = r .connection; handler = r .script; cookies = cs }) (keep-all (holds set (urlMessage p (r .url))) (cookiesOf r))
+  same-observation : (r : Record) → observationBy (readers set p) r ≡ observationOf set p r
+  unfolding observationBy observationOf readers
+  same-observation r = ap (λ (cs : List Cookie). record { kind = plainMap (r .map); url = r .url; connection = r .connection; handler = r .script; cookies = cs }) (keep-all (holds set (urlMessage p (r .url))) (cookiesOf r))
 
-  same-sights : (rs : List Record) → sightsBy (readers set p) rs ≡ sights set p rs
-  unfolding sightsBy sights readers
-  same-sights rs = map-alike (sightBy (readers set p)) (sightOf set p) same-sight (keep (λ r. holds set (urlEvent p (r .url))) rs)
+  same-observations : (rs : List Record) → observationsBy (readers set p) rs ≡ observations set p rs
+  unfolding observationsBy observations readers
+  same-observations rs = map-alike (observationBy (readers set p)) (observationOf set p) same-observation (keep (λ r. holds set (urlEvent p (r .url))) rs)
 
   same-shown : (e : Event) → branch (seesEvent (readers set p) e) (seenOf p (readers set p) e ∷ []) [] ≡ shown set p e
   unfolding seesEvent seenOf seenCookies shown shownCookies readers
@@ -109,9 +109,9 @@ accepted-same set p scripts is js good table typed fi fj e =
     let agree = agree-trans v (left .state) (middle .state) (right .state) i-state (agree-sym v (right .state) (middle .state) (j .0)) in
     record {
       sameRequests =
-          sym (same-sights set p (left .requests)) ∙ i .1
-          ∙ ap (λ (es : List Event). sightsBy v (reactAll p scripts emptyState es .sent)) e
-          ∙ sym (j .1) ∙ same-sights set p (right .requests);
+          sym (same-observations set p (left .requests)) ∙ i .1
+          ∙ ap (λ (es : List Event). observationsBy v (reactAll p scripts emptyState es .sent)) e
+          ∙ sym (j .1) ∙ same-observations set p (right .requests);
       sameCookies = agree .cookies;
       sameConnections = agree .words;
       refusedPolicy = λ bad. absurd (T-not (wellFormed p) bad good);

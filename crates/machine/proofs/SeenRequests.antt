@@ -1,7 +1,7 @@
--- A request looks the same to an observer from states that agree, and one that it does not see is no sight.
+-- A request looks the same to an observer from states that agree, and of one that it does not see there is no observation.
 use Prim.Native.Nat.{ℕ, zero, suc, _<_}
 use native.Mathlib.Omega.{arith}
-use mathlib.Core.Bool.{Bool, true, false, not, _&&_}
+use mathlib.Core.Bool.{Bool, true, false, not, _&&_, and-comm}
 use mathlib.Core.List.{List, [], _∷_, map}
 use mathlib.Core.Logic.{⊎-elim}
 use mathlib.Core.Path.{_≡_, refl, sym, ap, ap₂, _∙_}
@@ -15,11 +15,11 @@ use Rattle.machine.specs.Choice.{branch, keep}
 use Rattle.machine.specs.Policy.{hostKeys, cookieIndex, cookieReaders, urlHost, urlMessage}
 use Rattle.machine.specs.Session.{documentKind, cookieValue, present, has, keyMap, Cookie, attaches, requestMap, request}
 use Rattle.machine.specs.Machine.{plainMap, cookiesOf}
-use Rattle.machine.specs.Secrecy.{Sight}
-use Rattle.machine.proofs.Choices.{either, one, two, branch-false, keep-one, keep-none}
+use Rattle.machine.specs.Secrecy.{Observation}
+use Rattle.machine.proofs.Choices.{either, and-alike, one, two, branch-false, keep-one, keep-none}
 use Rattle.machine.proofs.Lists.{Each}
 use Rattle.machine.proofs.KeyMaps.{has-map}
-use Rattle.machine.proofs.Observer.{Observer, Laws, Agree, sightBy, sightsBy}
+use Rattle.machine.proofs.Observer.{Observer, Laws, Agree, observationBy, observationsBy}
 
 -- the kind of a request does not go by its cookies
 plain-map : (kind keys : ℕ) → plainMap (requestMap kind keys) ≡ branch (eqb kind documentKind) documentRequest scriptRequest
@@ -64,11 +64,11 @@ module _ (see : ℕ → Bool) (keys keys′ : ℕ) (values values′ : List ℕ)
       (λ (t : T (not (see k))). skips k (has keys k) values (keep (has keys) ks) t ∙ rest ∙ sym (skips k (has keys′ k) values′ (keep (has keys′) ks) t))
       (either (see k))
 
-  pub cookies-alike : keep looks (map (cookieWith values) (keep (has keys) keyNumbers)) ≡ keep looks (map (cookieWith values′) (keep (has keys′) keyNumbers))
+  cookies-alike : keep looks (map (cookieWith values) (keep (has keys) keyNumbers)) ≡ keep looks (map (cookieWith values′) (keep (has keys′) keyNumbers))
   cookies-alike = alike keyNumbers (omega arith)
 
 -- a value for each key, by its key
-pub at-key : (f : ℕ → ℕ) (k : ℕ) → k < hostKeys → getD (map f keyNumbers) k 0 ≡ f k
+at-key : (f : ℕ → ℕ) (k : ℕ) → k < hostKeys → getD (map f keyNumbers) k 0 ≡ f k
 at-key f zero l = refl
 at-key f (suc zero) l = refl
 at-key f (suc (suc zero)) l = refl
@@ -80,11 +80,7 @@ at-key f (suc (suc (suc (suc (suc (suc (suc zero))))))) l = refl
 at-key f (suc (suc (suc (suc (suc (suc (suc (suc k)))))))) l = absurd (omega arith)
 
 both-and : (x y b : Bool) → (T b → x ≡ y) → x && b ≡ y && b
-both-and x y true f = ap (λ (z : Bool). z && true) (f tt)
-both-and true true false f = refl
-both-and true false false f = refl
-both-and false true false f = refl
-both-and false false false f = refl
+both-and x y b f = and-comm x b ∙ and-alike b f ∙ and-comm b y
 
 -- ---- requests
 
@@ -117,26 +113,26 @@ module _ (p : List ℕ) (v : Observer) (laws : Laws p v) (s t : List ℕ) (a : A
       ∙ two (λ (x y : ℕ). x ≡ y) (attaches p s u k) (attaches p t u k) (attached-alike k l see) (λ on. equal k l see (and-r (present s h k) (may k) on) .1) (λ _. refl)
       ∙ sym (at-key (values t) k l)
 
-  pub sight-alike : sightBy v (request p s n kind handler u) ≡ sightBy v (request p t n kind handler u)
-  unfolding sightBy request cookiesOf
-  sight-alike = ap₂ (λ (m : ℕ) (cs : List Cookie). record { kind = m; url = u; connection = n; handler = handler; cookies = cs })
+  observation-alike : observationBy v (request p s n kind handler u) ≡ observationBy v (request p t n kind handler u)
+  unfolding observationBy request cookiesOf
+  observation-alike = ap₂ (λ (m : ℕ) (cs : List Cookie). record { kind = m; url = u; connection = n; handler = handler; cookies = cs })
       (plain-map kind (keyMap (attaches p s u)) ∙ sym (plain-map kind (keyMap (attaches p t u))))
       (cookies-alike (v .seesAttached u) (keyMap (attaches p s u)) (keyMap (attaches p t u)) (map (values s) keyNumbers) (map (values t) keyNumbers) keys-alike values-alike)
 
 -- one request sent
 module _ (p : List ℕ) (v : Observer) (n kind handler u : ℕ) where
-  one-sight : (s : List ℕ) → T (v .seesRequest u) → sightsBy v (request p s n kind handler u ∷ []) ≡ sightBy v (request p s n kind handler u) ∷ []
-  unfolding sightsBy request
-  one-sight s t = ap (map (sightBy v)) (keep-one (λ (r : Record). v .seesRequest (r .url)) (request p s n kind handler u) t)
+  one-observation : (s : List ℕ) → T (v .seesRequest u) → observationsBy v (request p s n kind handler u ∷ []) ≡ observationBy v (request p s n kind handler u) ∷ []
+  unfolding observationsBy request
+  one-observation s t = ap (map (observationBy v)) (keep-one (λ (r : Record). v .seesRequest (r .url)) (request p s n kind handler u) t)
 
-  pub unseen-request : (s : List ℕ) → T (not (v .seesRequest u)) → sightsBy v (request p s n kind handler u ∷ []) ≡ []
-  unfolding sightsBy request
-  unseen-request s t = ap (map (sightBy v)) (keep-none (λ (r : Record). v .seesRequest (r .url)) (request p s n kind handler u) t)
+  pub unseen-request : (s : List ℕ) → T (not (v .seesRequest u)) → observationsBy v (request p s n kind handler u ∷ []) ≡ []
+  unfolding observationsBy request
+  unseen-request s t = ap (map (observationBy v)) (keep-none (λ (r : Record). v .seesRequest (r .url)) (request p s n kind handler u) t)
 
   pub same-request : Laws p v → (s t : List ℕ) → Agree v s t
-      → sightsBy v (request p s n kind handler u ∷ []) ≡ sightsBy v (request p t n kind handler u ∷ [])
+      → observationsBy v (request p s n kind handler u ∷ []) ≡ observationsBy v (request p t n kind handler u ∷ [])
   same-request laws s t a =
       ⊎-elim
-      (λ (seen : T (v .seesRequest u)). one-sight s seen ∙ ap (λ (x : Sight). x ∷ []) (sight-alike p v laws s t a n kind handler u seen) ∙ sym (one-sight t seen))
+      (λ (seen : T (v .seesRequest u)). one-observation s seen ∙ ap (λ (x : Observation). x ∷ []) (observation-alike p v laws s t a n kind handler u seen) ∙ sym (one-observation t seen))
       (λ (hidden : T (not (v .seesRequest u))). unseen-request s hidden ∙ sym (unseen-request t hidden))
       (either (v .seesRequest u))

@@ -25,11 +25,11 @@ use Rattle.machine.specs.Session.{cookieValue, keyMap, has, documentKind
 use Rattle.machine.specs.Scripts.{stopped}
 use Rattle.machine.specs.Machine.{outputRoom, outcome, feed}
 use Rattle.machine.specs.Guarantees.{areWords, SentReadsBack}
-use Rattle.machine.proofs.Choices.{one}
+use Rattle.machine.proofs.Choices.{parts, one}
 use Rattle.machine.proofs.Lists.{Each}
 use Rattle.machine.proofs.KeyMaps.{has-map, map-below}
 use Rattle.machine.proofs.Accepted.{either-way}
-use Rattle.machine.proofs.SoundStates.{parts, Sound, openFields, documentFields, scriptFields, fields-bytes}
+use Rattle.machine.proofs.SoundStates.{Sound, openFields, documentFields, scriptFields, fields-bytes}
 use Rattle.machine.proofs.WordSizes.{Word, words-good}
 
 -- ---- a request

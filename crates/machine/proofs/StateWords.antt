@@ -51,7 +51,7 @@ module _ (s : List ℕ) (whole : length s ≡ stateWords) (h k v : ℕ) (lh : h 
       getD-set-other (set s (cookieIndex h k) v) (presenceAt + h) (presenceAt + g) _ 0 (λ e. ne (omega arith))
       ∙ getD-set-other s (cookieIndex h k) (presenceAt + g) v 0 (λ e. omega arith)
 
-  pub keys-here : (j : ℕ) → j < hostKeys → present after h j ≡ eqb j k || present s h j
+  keys-here : (j : ℕ) → j < hostKeys → present after h j ≡ eqb j k || present s h j
   keys-here j l = ap (λ (x : ℕ). has x j) presence-here ∙ has-map hostKeys (λ j. eqb j k || present s h j) j l
 
   pub present-here : present after h k ≡ true

@@ -2,7 +2,7 @@
 -- alike from states that agree where the observer sees what the script may read, and quiet where it does not.
 use Prim.Native.Nat.{ℕ, zero, suc, _+_, _<_}
 use native.Mathlib.Omega.{arith}
-use mathlib.Core.Bool.{Bool, true, false, not, _&&_}
+use mathlib.Core.Bool.{Bool, not, _&&_}
 use mathlib.Core.List.{List, [], _++_}
 use mathlib.Core.Logic.{⊎-elim}
 use mathlib.Core.Path.{_≡_, refl, sym, ap, ap₂, _∙_, subst}
@@ -13,14 +13,9 @@ use Rattle.machine.specs.Choice.{keep}
 use Rattle.machine.specs.Policy.{hostKeys, connections, cookieIndex, urlHost, isUrl, isConnection, mayRead, mayWrite, maySend}
 use Rattle.machine.specs.Session.{stateWords, scriptKind, cookieValue, present, packed, Effects, send}
 use Rattle.machine.specs.Scripts.{scriptSteps, stepLimit, Step, end, constant, add, readCookie, writeCookie, sendRequest, skipIfZero, stepAt, scriptAt, Progress, register, isRegister, isKey, isScript, ended, goesOn, goesOnAfter, step, stopped, followed, runFrom, startingWith, runScript}
-use Rattle.machine.proofs.Choices.{either, one, two}
-use Rattle.machine.proofs.Observer.{Observer, Laws, Agree, sightsBy, sights-append, agree-refl, agree-sym, agree-trans, unseen-cookie, unseen-connection, same-cookie, same-connection}
+use Rattle.machine.proofs.Choices.{either, and-alike, one, two}
+use Rattle.machine.proofs.Observer.{Observer, Laws, Agree, observationsBy, observations-append, agree-refl, agree-sym, agree-trans, unseen-cookie, unseen-connection, same-cookie, same-connection}
 use Rattle.machine.proofs.SeenRequests.{unseen-request, same-request}
-
--- the same test on both sides needs to be equal only where what stands before it passes
-pub and-alike : (x : Bool) {y z : Bool} → (T x → y ≡ z) → x && y ≡ x && z
-and-alike true f = f tt
-and-alike false f = refl
 
 -- what is not seen by one test is not seen by another that needs it
 pub unseen : (x y : Bool) → (T x → T y) → T (not y) → T (not x)
@@ -28,15 +23,15 @@ unseen x y f h = not-T x (λ t. T-not y h (f t))
 
 pub record Alike (v : Observer) (a b : Effects) : Type 0 where
   pub states : Agree v (a .state) (b .state)
-  pub requests : sightsBy v (a .sent) ≡ sightsBy v (b .sent)
+  pub requests : observationsBy v (a .sent) ≡ observationsBy v (b .sent)
 
 pub record Quiet (v : Observer) (s : List ℕ) (e : Effects) : Type 0 where
   pub states : Agree v s (e .state)
-  pub requests : sightsBy v (e .sent) ≡ []
+  pub requests : observationsBy v (e .sent) ≡ []
 
-no-sights : (v : Observer) → sightsBy v [] ≡ []
-unfolding sightsBy keep
-no-sights v = refl
+no-observations : (v : Observer) → observationsBy v [] ≡ []
+unfolding observationsBy keep
+no-observations v = refl
 
 pub stopped-alike : (v : Observer) (s t : List ℕ) → Agree v s t → Alike v (stopped s) (stopped t)
 unfolding stopped
@@ -44,7 +39,7 @@ stopped-alike v s t a = record { states = a; requests = refl }
 
 pub stopped-quiet : (v : Observer) (s : List ℕ) → length s ≡ stateWords → Quiet v s (stopped s)
 unfolding stopped
-stopped-quiet v s whole = record { states = agree-refl v s whole; requests = no-sights v }
+stopped-quiet v s whole = record { states = agree-refl v s whole; requests = no-observations v }
 
 -- quiet on both sides
 pub quiet-alike : (v : Observer) (s t : List ℕ) (a b : Effects) → Agree v s t → Quiet v s a → Quiet v t b → Alike v a b
@@ -81,11 +76,11 @@ module _ (p : List ℕ) (v : Observer) (laws : Laws p v) where
     pub place : a .place ≡ b .place
     pub registers : a .registers ≡ b .registers
     pub states : Agree v (a .state) (b .state)
-    pub requests : sightsBy v (a .sent) ≡ sightsBy v (b .sent)
+    pub requests : observationsBy v (a .sent) ≡ observationsBy v (b .sent)
 
   record QuietStep (s : List ℕ) (a : Progress) : Type 0 where
     pub states : Agree v s (a .state)
-    pub requests : sightsBy v (a .sent) ≡ []
+    pub requests : observationsBy v (a .sent) ≡ []
 
   module _ (n page : ℕ) where
     abbrev h : ℕ
@@ -148,11 +143,11 @@ module _ (p : List ℕ) (v : Observer) (laws : Laws p v) where
     module _ (hidden : T (not (v .seesScript n))) (s : List ℕ) (whole : length s ≡ stateWords) where
       ends-quiet : (rs : List ℕ) → QuietStep s (ended rs s)
       unfolding ended
-      ends-quiet rs = record { states = agree-refl v s whole; requests = no-sights v }
+      ends-quiet rs = record { states = agree-refl v s whole; requests = no-observations v }
 
       goes-quiet : (i : ℕ) (rs t : List ℕ) → Agree v s t → QuietStep s (goesOn i rs t)
       unfolding goesOn
-      goes-quiet i rs t a = record { states = a; requests = no-sights v }
+      goes-quiet i rs t a = record { states = a; requests = no-observations v }
 
       goes-after-quiet : (i : ℕ) (rs : List ℕ) (e : Effects) → Quiet v s e → QuietStep s (goesOnAfter i rs e)
       unfolding goesOnAfter
@@ -192,14 +187,14 @@ module _ (p : List ℕ) (v : Observer) (laws : Laws p v) where
     unfolding followed
     followed-alike a b e f l r = record {
       states = r .states;
-      requests = sights-append v (a .sent) (e .sent) ∙ ap₂ _++_ (l .requests) (r .requests) ∙ sym (sights-append v (b .sent) (f .sent));
+      requests = observations-append v (a .sent) (e .sent) ∙ ap₂ _++_ (l .requests) (r .requests) ∙ sym (observations-append v (b .sent) (f .sent));
     }
 
     followed-quiet : (s : List ℕ) (a : Progress) (e : Effects) → QuietStep s a → Quiet v (a .state) e → Quiet v s (followed a e)
     unfolding followed
     followed-quiet s a e q r = record {
       states = agree-trans v s (a .state) (e .state) (q .states) (r .states);
-      requests = sights-append v (a .sent) (e .sent) ∙ ap₂ _++_ (q .requests) (r .requests);
+      requests = observations-append v (a .sent) (e .sent) ∙ ap₂ _++_ (q .requests) (r .requests);
     }
 
     module _ (code : ℕ → Step) where

@@ -23,10 +23,11 @@ use Rattle.machine.specs.Session.{presenceAt, connectionsAt, free, docum
 use Rattle.machine.specs.Scripts.{stepLimit, stopped, scriptAt, scriptBytes}
 use Rattle.machine.specs.Machine.{feed, perform}
 use Rattle.machine.specs.Guarantees.{areWords, WordsKept}
+use Rattle.machine.proofs.Choices.{parts}
 use Rattle.machine.proofs.Lists.{Each, each-take, each-drop, each-at, each-of}
 use Rattle.machine.proofs.ConnectionWords.{below-kind}
 use Rattle.machine.proofs.Accepted.{eventIn, Passed, either-way}
-use Rattle.machine.proofs.SoundStates.{parts, Sound, openFields}
+use Rattle.machine.proofs.SoundStates.{Sound, openFields}
 use Rattle.machine.proofs.Kept.{Good, TableValues, accepted-good}
 
 abbrev pub Word : ℕ → Type 0

@@ -15,11 +15,11 @@ use Rattle.machine.specs.Cases.{Words, url, cookieLabel, connection, pol
 abbrev pub doubleKeyZero : List ℕ
 doubleKeyZero = scriptsWith (scriptOf 1 (readCookie 1 0 ∷ add 1 1 1 ∷ writeCookie 0 1 ∷ end ∷ []) ∷ [])
 
--- load 0 on connection 0 with so many output bytes
+-- a call with so many output bytes
 abbrev pub withRoom : ℕ → Call → Case
 withRoom room c = record { scripts = scriptsWith []; room = room; start = []; calls = c ∷ [] }
 
--- after e and a second load, on connection n, that script is the response's
+-- a call in the state that e and a second load leave, with that script
 abbrev pub afterSeven : List Words → Call → Case
 afterSeven pending c = record { scripts = doubleKeyZero; room = outputRoom; start = pending ++ sevenStored; calls = c ∷ [] }
 
@@ -116,7 +116,7 @@ pageRuns before code steps sent after = inQ (scriptOf 1 code ∷ []) (pageLoadin
 
 -- ---- each condition where it alone fails
 
--- host 0 has 9 for these keys
+-- host 0 has 9 for key k, and no other key: `keys` is the map of k
 abbrev pub nineFor : ℕ → ℕ → List Words
 nineFor k keys = valueIs 0 k 9 ∷ keysAre 0 keys ∷ []
 

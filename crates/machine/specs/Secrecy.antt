@@ -86,7 +86,7 @@ remaining set p is = branch (wellFormed p) (shownRecords set p is) []
 -- request by its event endpoint, its cookies by its message endpoint.
 
 -- A request as a set sees it. Its kind, document or script, is the map byte without the bit for cookies.
-pub record Sight : Type 0 where
+pub record Observation : Type 0 where
   pub kind : ℕ
   pub url : ℕ
   pub connection : ℕ
@@ -94,8 +94,8 @@ pub record Sight : Type 0 where
   pub cookies : List Cookie
 
 -- the cookies show where the set holds the URL's message endpoint
-unfoldable pub sightOf : ℕ → List ℕ → Record → Sight
-sightOf set p r = record {
+unfoldable pub observationOf : ℕ → List ℕ → Record → Observation
+observationOf set p r = record {
   kind = plainMap (r .map);
   url = r .url;
   connection = r .connection;
@@ -104,13 +104,13 @@ sightOf set p r = record {
 }
 
 -- the requests whose event endpoint is in the set, in order
-unfoldable pub sights : ℕ → List ℕ → List Record → List Sight
-sights set p rs = map (sightOf set p) (keep (λ r. holds set (urlEvent p (r .url))) rs)
+unfoldable pub observations : ℕ → List ℕ → List Record → List Observation
+observations set p rs = map (observationOf set p) (keep (λ r. holds set (urlEvent p (r .url))) rs)
 
 -- Two runs look the same to a set: the requests that it sees; the cookies (presence and value) and the connections (the whole word) whose
 -- readers meet it. Under a policy that 2 refuses, neither sends anything and the whole states are equal.
 pub record SameView (set : ℕ) (p : List ℕ) (a b : Trace) : Type 0 where
-  pub sameRequests : sights set p (a .requests) ≡ sights set p (b .requests)
+  pub sameRequests : observations set p (a .requests) ≡ observations set p (b .requests)
   pub sameCookies :
       (h k : ℕ) → h < hosts → k < hostKeys → T (meets (cookieReaders p (cookieIndex h k)) set)
       → (present (a .state) h k ≡ present (b .state) h k)

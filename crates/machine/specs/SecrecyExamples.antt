@@ -1,5 +1,5 @@
 -- That demand 3 says something: lists that a set cannot tell apart though much differs, and lists that it does tell apart. The proofs, by
--- computing, are in proofs/Telling.antt.
+-- computing, are in proofs/SecrecyExamples.antt.
 use Prim.Native.Nat.{ℕ}
 use mathlib.Core.Bool.{Bool, not, _&&_}
 use mathlib.Core.List.{List, [], _∷_, _++_, map}
@@ -12,7 +12,7 @@ use Rattle.machine.specs.Session.{cookieValue, Cookie}
 use Rattle.machine.specs.Scripts.{end, constant, writeCookie, sendRequest}
 use Rattle.machine.specs.Machine.{Event, Load, DocumentResponse, ScriptResponse, Redirect}
 use Rattle.machine.specs.Cases.{url, cookieLabel, connection, policyWith, scriptsWith, scriptOf, sameNumbers}
-use Rattle.machine.specs.Secrecy.{Item, Trace, run, remaining, Sight, sights}
+use Rattle.machine.specs.Secrecy.{Item, Trace, run, remaining, Observation, observations}
 
 -- ---- what is compared, as lists of numbers
 
@@ -31,13 +31,13 @@ abbrev pub eventsNumbers : List Event → List ℕ
 eventsNumbers [] = []
 eventsNumbers (e ∷ es) = eventNumbers e ++ eventsNumbers es
 
--- and so have different sights
-abbrev pub sightNumbers : Sight → List ℕ
-sightNumbers v = v .kind ∷ v .url ∷ v .connection ∷ v .handler ∷ length (v .cookies) ∷ cookieNumbers (v .cookies)
+-- and so have different observations
+abbrev pub observationNumbers : Observation → List ℕ
+observationNumbers v = v .kind ∷ v .url ∷ v .connection ∷ v .handler ∷ length (v .cookies) ∷ cookieNumbers (v .cookies)
 
-abbrev pub sightsNumbers : List Sight → List ℕ
-sightsNumbers [] = []
-sightsNumbers (v ∷ vs) = sightNumbers v ++ sightsNumbers vs
+abbrev pub observationsNumbers : List Observation → List ℕ
+observationsNumbers [] = []
+observationsNumbers (v ∷ vs) = observationNumbers v ++ observationsNumbers vs
 
 -- ---- a policy, scripts and a set
 
@@ -71,11 +71,11 @@ abbrev pub items : ℕ → ℕ → List (List ℕ) → List Item
 items room filler records = map (λ r. record { bytes = r; buffer = replicate room filler }) records
 
 -- what remains of a list, and what the set sees of a run, under a policy
-abbrev pub left : List ℕ → List Item → List ℕ
-left p is = eventsNumbers (remaining httpHostOne p is)
+abbrev pub remainingNumbers : List ℕ → List Item → List ℕ
+remainingNumbers p is = eventsNumbers (remaining httpHostOne p is)
 
-abbrev pub seen : List ℕ → Trace → List ℕ
-seen p r = sightsNumbers (sights httpHostOne p (r .requests))
+abbrev pub seenNumbers : List ℕ → Trace → List ℕ
+seenNumbers p r = observationsNumbers (observations httpHostOne p (r .requests))
 
 abbrev pub sentBytes : List Record → List ℕ
 sentBytes [] = []
@@ -128,18 +128,18 @@ requestsDiffer a b =
 
 -- Once what is hidden is struck the lists are equal, and three records are left.
 abbrev pub struckAlike : List ℕ → Bool
-struckAlike p = sameNumbers (left p withHidden) (left p withoutHidden) && eqb (length (remaining httpHostOne p withHidden)) 3
+struckAlike p = sameNumbers (remainingNumbers p withHidden) (remainingNumbers p withoutHidden) && eqb (length (remaining httpHostOne p withHidden)) 3
 
 -- The set sees the same of both: three requests, the second with cookie (1,0).
-abbrev pub threeSights : List ℕ
-threeSights =
+abbrev pub threeObservations : List ℕ
+threeObservations =
     0x03 ∷ 1 ∷ 1 ∷ 0 ∷ 0
     ∷ 0x0b ∷ 1 ∷ 1 ∷ 0 ∷ 1 ∷ 0 ∷ 7
     ∷ 0x03 ∷ 2 ∷ 1 ∷ 0 ∷ 0
     ∷ []
 
 abbrev pub seenAlike : List ℕ → Trace → Trace → Bool
-seenAlike p a b = sameNumbers (seen p a) threeSights && sameNumbers (seen p b) threeSights
+seenAlike p a b = sameNumbers (seenNumbers p a) threeObservations && sameNumbers (seenNumbers p b) threeObservations
 
 unfoldable pub hiddenUnseen : List ℕ → Trace → Trace → Bool
 hiddenUnseen p a b = statesDiffer a b && (requestsDiffer a b && (struckAlike p && seenAlike p a b))
@@ -155,7 +155,7 @@ bringing v = items 1184 0xee (
 
 -- Lists are told apart: they differ once what is hidden is struck, and the set sees other requests of their runs.
 unfoldable pub toldApart : List ℕ → List Item → Trace → List Item → Trace → Bool
-toldApart p is a js b = not (sameNumbers (left p is) (left p js)) && not (sameNumbers (seen p a) (seen p b))
+toldApart p is a js b = not (sameNumbers (remainingNumbers p is) (remainingNumbers p js)) && not (sameNumbers (seenNumbers p a) (seenNumbers p b))
 
 -- ---- the claim
 

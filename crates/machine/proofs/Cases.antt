@@ -1,4 +1,4 @@
--- The worked cases hold: each is computed.
+-- The worked cases hold: they are computed.
 use Rattle.machine.specs.Cases.{with, emptyRows, policyWith, stepBytes, stepsBytes, scriptsWith, stateWith, sameNumbers, gives, rightFrom, allRight, CasesAToJ}
 use Rattle.machine.specs.MoreCases.{MoreCases}
 use Rattle.machine.proofs.Computing.{machine}
