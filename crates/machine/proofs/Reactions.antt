@@ -7,14 +7,13 @@ use mathlib.Core.List.{List, [], _∷_}
 use mathlib.Core.Path.{_≡_, refl, ap, ap₂, subst}
 use lib.Dec.{T, eqb}
 use lib.ListN.{length}
-use store.Enc.{and-l, and-r}
 use Rattle.labels.specs.Addresses.{hosts}
 use Rattle.machine.specs.Choice.{keep}
-use Rattle.machine.specs.Policy.{hostKeys, connections, cookieIndex, urlHost, isUrl, isConnection, mayStore}
+use Rattle.machine.specs.Policy.{hostKeys, connections, cookieIndex, urlHost, mayStore}
 use Rattle.machine.specs.Session.{stateWords, free, documentKind, scriptKind, connectionWord, kindOf, originOf, handlerOf, urlOf, Cookie, storeCookie, storeCookies, setConnection, send}
 use Rattle.machine.specs.Scripts.{runScript}
 use Rattle.machine.specs.Machine.{Event, Load, DocumentResponse, ScriptResponse, Redirect, named, pending, awaited, readersAllow, writersAllow, perform}
-use Rattle.machine.proofs.Choices.{one, two}
+use Rattle.machine.proofs.Choices.{parts, one, two}
 use Rattle.machine.proofs.Accepted.{react}
 use Rattle.machine.proofs.Events.{KeysBelow, EventKeys, connection-below}
 use Rattle.machine.proofs.Observer.{Observer, Laws, Agree, agree-refl, agree-trans, agree-sym, unseen-cookie, unseen-connection, same-cookie, same-connection}
@@ -101,7 +100,7 @@ module _ (p : List ℕ) (v : Observer) (laws : Laws p v) where
     perform-quiet (Load u n) s ok below hidden whole r w =
         send-quiet p v laws n documentKind 0 0 u s whole
         (unseen (v .seesConnection n) (v .seesLoad u) (laws .loads n u r) hidden)
-        (unseen (v .seesRequest u) (v .seesLoad u) (laws .requests u (and-l (isUrl p u) (isConnection n) ok)) hidden)
+        (unseen (v .seesRequest u) (v .seesLoad u) (laws .requests u (search parts)) hidden)
     perform-quiet (DocumentResponse u n cs x) s ok below hidden whole r w =
         respond-quiet n u _ x 0 cs s (connection-below p (DocumentResponse u n cs x) ok) hidden below whole
     perform-quiet (ScriptResponse u n cs value) s ok below hidden whole r w =
@@ -169,7 +168,5 @@ module _ (p : List ℕ) (v : Observer) (laws : Laws p v) where
     unfolding react
     react-quiet e s ok below hidden whole =
         one (Quiet v s) (awaited s e && (readersAllow p e && writersAllow p e))
-        (λ may.
-        let both = and-r (awaited s e) (readersAllow p e && writersAllow p e) may in
-        perform-quiet e s ok below hidden whole (and-l (readersAllow p e) (writersAllow p e) both) (and-r (readersAllow p e) (writersAllow p e) both))
+        (λ may. perform-quiet e s ok below hidden whole (search parts) (search parts))
         (λ _. stopped-quiet v s whole)

@@ -3,15 +3,14 @@
 use Prim.Native.Nat.{ℕ, _<_}
 use mathlib.Core.Bool.{Bool, true, false, not, _&&_, _||_}
 use mathlib.Core.List.{List}
-use lib.Dec.{T, ltb, eqb, ltb→lt}
-use lib.ListN.{length}
-use store.Enc.{and-l, and-r}
-use Rattle.labels.specs.Membership.{endpoints, allBelow}
+use lib.Dec.{T, ltb, ltb→lt}
+use Rattle.labels.specs.Membership.{endpoints}
 use Rattle.labels.specs.Sets.{holds, within, meets}
 use Rattle.labels.proofs.Below.{all-at}
 use Rattle.labels.proofs.Membership.{share-mono, share-member}
 use Rattle.labels.proofs.Words.{holds-below}
-use Rattle.machine.specs.Policy.{urlRows, connections, policyWords, urlAddress, cookieIndex, urlReaders, urlWriters, cookieReaders, cookieWriters, connectionReaders, scriptReaders, connectionWriters, urlHost, urlMessage, urlEvent, emptyRow, rowWellFormed, connectionWellFormed, wellFormed, isUrl, fits, mayStore, mayRead, mayWrite, maySend, loadReaders, redirectReaders}
+use Rattle.machine.specs.Policy.{urlRows, connections, urlAddress, cookieIndex, urlReaders, cookieReaders, connectionReaders, scriptReaders, urlHost, urlMessage, urlEvent, emptyRow, rowWellFormed, connectionWellFormed, wellFormed, isUrl, mayStore, mayRead, mayWrite, maySend, loadReaders, redirectReaders}
+use Rattle.machine.proofs.Choices.{parts}
 use Rattle.machine.proofs.Observer.{Observer, Laws}
 
 unfoldable pub readers : ℕ → List ℕ → Observer
@@ -34,45 +33,38 @@ module _ (set : ℕ) (p : List ℕ) (good : T (wellFormed p)) where
 
   -- ---- a policy that is well formed
 
-  rows : T (allBelow urlRows (rowWellFormed p) && allBelow connections (connectionWellFormed p))
-  unfolding wellFormed
-  rows = and-r (eqb (length p) policyWords) (allBelow urlRows (rowWellFormed p) && allBelow connections (connectionWellFormed p)) good
-
   script-within : (n : ℕ) → n < connections → T (within (scriptReaders p n) (connectionReaders p n))
-  unfolding connectionWellFormed
-  script-within n l = all-at connections (connectionWellFormed p) (and-r (allBelow urlRows (rowWellFormed p)) (allBelow connections (connectionWellFormed p)) rows) n l
+  unfolding wellFormed connectionWellFormed
+  script-within n l = all-at connections (connectionWellFormed p) (search parts) n l
 
   other-half : (x y : Bool) → T (not x) → T (x || y) → T y
   other-half true y t o = absurd t
   other-half false y t o = o
 
   event-held : (u : ℕ) → T (isUrl p u) → T (holds (urlReaders p u) (urlEvent p u))
-  unfolding isUrl rowWellFormed
+  unfolding wellFormed isUrl rowWellFormed
   event-held u t =
-      let row = all-at urlRows (rowWellFormed p) (and-l (allBelow urlRows (rowWellFormed p)) (allBelow connections (connectionWellFormed p)) rows) u (ltb→lt u urlRows (and-l (ltb u urlRows) (not (emptyRow p u)) t)) in
-      let named = other-half (emptyRow p u) (ltb (urlAddress p u) endpoints && holds (urlReaders p u) (urlEvent p u)) (and-r (ltb u urlRows) (not (emptyRow p u)) t) row in
-      and-r (ltb (urlAddress p u) endpoints) (holds (urlReaders p u) (urlEvent p u)) named
+      let row = all-at urlRows (rowWellFormed p) (search parts) u (ltb→lt u urlRows (search parts)) in
+      let named = other-half (emptyRow p u) (ltb (urlAddress p u) endpoints && holds (urlReaders p u) (urlEvent p u)) (search parts) row in
+      search parts
 
   -- ---- the conditions
 
   stored : (n c : ℕ) → T (mayStore p n c) → T (within (cookieReaders p c) (connectionReaders p n))
   unfolding mayStore
-  stored n c = and-l (within (cookieReaders p c) (connectionReaders p n)) (within (connectionWriters p n) (cookieWriters p c))
+  stored n c t = search parts
 
   read : (n c : ℕ) → T (mayRead p n c) → T (within (scriptReaders p n) (cookieReaders p c))
   unfolding mayRead
-  read n c = and-l (within (scriptReaders p n) (cookieReaders p c)) (within (cookieWriters p c) (connectionWriters p n))
+  read n c t = search parts
 
   written : (n c : ℕ) → T (mayWrite p n c) → T (within (cookieReaders p c) (scriptReaders p n))
   unfolding mayWrite
-  written n c = and-l (within (cookieReaders p c) (scriptReaders p n)) (within (connectionWriters p n) (cookieWriters p c))
+  written n c t = search parts
 
   sent : (n u m : ℕ) → T (maySend p n u m) → T (holds (scriptReaders p n) (urlEvent p u)) × T (within (connectionReaders p m) (scriptReaders p n))
   unfolding maySend
-  sent n u m t =
-      let last = fits p m u && (within (connectionWriters p n) (connectionWriters p m) && within (connectionWriters p n) (urlWriters p u)) in
-      let all = within (connectionReaders p m) (scriptReaders p n) && last in
-      (and-l (holds (scriptReaders p n) (urlEvent p u)) all t, and-l (within (connectionReaders p m) (scriptReaders p n)) last (and-r (holds (scriptReaders p n) (urlEvent p u)) all t))
+  sent n u m t = (search parts, search parts)
 
   loaded : (n u : ℕ) → T (loadReaders p n u) → T (within (connectionReaders p n) (urlReaders p u))
   unfolding loadReaders
@@ -80,7 +72,7 @@ module _ (set : ℕ) (p : List ℕ) (good : T (wellFormed p)) where
 
   redirected : (n t : ℕ) → T (redirectReaders p n t) → T (holds (connectionReaders p n) (urlEvent p t))
   unfolding redirectReaders
-  redirected n t = and-l (holds (connectionReaders p n) (urlEvent p t)) (within (connectionReaders p n) (urlReaders p t))
+  redirected n t r = search parts
 
   pub readers-laws : Laws p (readers set p)
   unfolding readers

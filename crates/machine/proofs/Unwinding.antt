@@ -8,12 +8,11 @@ use mathlib.Core.Logic.{⊎-elim}
 use mathlib.Core.Path.{_≡_, refl, sym, ap, ap₂, _∙_, subst}
 use lib.Dec.{T, ltb, eqb, ltb→lt, T-not, not-T}
 use lib.ListN.{length, set}
-use store.Enc.{and-l, and-r}
 use Rattle.machine.specs.Choice.{keep}
 use Rattle.machine.specs.Policy.{hostKeys, connections, cookieIndex, urlHost, isUrl, isConnection, mayRead, mayWrite, maySend}
 use Rattle.machine.specs.Session.{stateWords, scriptKind, cookieValue, present, packed, Effects, send}
 use Rattle.machine.specs.Scripts.{scriptSteps, stepLimit, Step, end, constant, add, readCookie, writeCookie, sendRequest, skipIfZero, stepAt, scriptAt, Progress, register, isRegister, isKey, isScript, ended, goesOn, goesOnAfter, step, stopped, followed, runFrom, startingWith, runScript}
-use Rattle.machine.proofs.Choices.{either, and-alike, one, two}
+use Rattle.machine.proofs.Choices.{parts, either, and-alike, one, two}
 use Rattle.machine.proofs.Observer.{Observer, Laws, Agree, observationsBy, observations-append, agree-refl, agree-sym, agree-trans, unseen-cookie, unseen-connection, same-cookie, same-connection}
 use Rattle.machine.proofs.SeenRequests.{unseen-request, same-request}
 
@@ -117,22 +116,19 @@ module _ (p : List ℕ) (v : Observer) (laws : Laws p v) where
         two Lock (isRegister r && (isKey k && (mayRead p n c && present s h k))) (isRegister r && (isKey k && (mayRead p n c && present t h k)))
         (and-alike (isRegister r) (λ _. and-alike (isKey k) (λ lk. and-alike (mayRead p n c) (λ m. readable seen k s t a lk m .0))))
         (λ ok.
-        let ok′ = and-r (isRegister r) (isKey k && (mayRead p n c && present s h k)) ok in
-        let lk = and-l (isKey k) (mayRead p n c && present s h k) ok′ in
-        let m = and-l (mayRead p n c) (present s h k) (and-r (isKey k) (mayRead p n c && present s h k) ok′) in
-        goes (suc i) _ _ s t (ap (set rs r) (readable seen k s t a lk m .1)) a)
+        goes (suc i) _ _ s t (ap (set rs r) (readable seen k s t a (search parts) (search parts) .1)) a)
         (λ _. ends rs s t a)
     lock seen (writeCookie k r) i rs s t a =
         let test = isKey k && isRegister r in
         two Lock test test refl
         (λ ok. two Lock (mayWrite p n (cookieIndex h k)) (mayWrite p n (cookieIndex h k)) refl
-        (λ _. goes (suc i) rs rs _ _ refl (same-cookie v s t a h k (register rs r) (omega arith) (ltb→lt k hostKeys (and-l (isKey k) (isRegister r) ok))))
+        (λ _. goes (suc i) rs rs _ _ refl (same-cookie v s t a h k (register rs r) (omega arith) (ltb→lt k hostKeys (search parts))))
         (λ _. goes (suc i) rs rs s t refl a))
         (λ _. ends rs s t a)
     lock seen (sendRequest u m x) i rs s t a =
         let test = isUrl p u && (isConnection m && (isScript x && maySend p n u m)) in
         two Lock test test refl
-        (λ ok. goes-after (suc i) rs _ _ (send-alike m scriptKind page x u s t (ltb→lt m connections (and-l (isConnection m) (isScript x && maySend p n u m) (and-r (isUrl p u) (isConnection m && (isScript x && maySend p n u m)) ok))) a))
+        (λ ok. goes-after (suc i) rs _ _ (send-alike m scriptKind page x u s t (ltb→lt m connections (search parts)) a))
         (λ _. ends rs s t a)
     lock seen (skipIfZero r k) i rs s t a =
         two Lock (isRegister r) (isRegister r) refl
@@ -167,13 +163,13 @@ module _ (p : List ℕ) (v : Observer) (laws : Laws p v) where
           let c = cookieIndex h k in
           one (QuietStep s) (isKey k && isRegister r)
           (λ ok. one (QuietStep s) (mayWrite p n c)
-          (λ m. goes-quiet (suc i) rs _ (unseen-cookie v s whole h k (register rs r) (omega arith) (ltb→lt k hostKeys (and-l (isKey k) (isRegister r) ok)) (unseen (v .seesCookie c) (v .seesScript n) (laws .writes n c m) hidden)))
+          (λ m. goes-quiet (suc i) rs _ (unseen-cookie v s whole h k (register rs r) (omega arith) (ltb→lt k hostKeys (search parts)) (unseen (v .seesCookie c) (v .seesScript n) (laws .writes n c m) hidden)))
           (λ _. goes-quiet (suc i) rs s (agree-refl v s whole)))
           (λ _. ends-quiet rs)
       quiet (sendRequest u m x) i rs =
           one (QuietStep s) (isUrl p u && (isConnection m && (isScript x && maySend p n u m)))
           (λ ok.
-          let may = and-r (isScript x) (maySend p n u m) (and-r (isConnection m) (isScript x && maySend p n u m) (and-r (isUrl p u) (isConnection m && (isScript x && maySend p n u m)) ok)) in
+          let may : T (maySend p n u m) = search parts in
           goes-after-quiet (suc i) rs _ (send-quiet m scriptKind page x u s whole (unseen (v .seesConnection m) (v .seesScript n) (laws .opens n u m may) hidden) (unseen (v .seesRequest u) (v .seesScript n) (laws .sends n u m may) hidden)))
           (λ _. ends-quiet rs)
       quiet (skipIfZero r k) i rs =
