@@ -1,7 +1,8 @@
 -- Tests: "or", tests that pass alike, and the bounded tests "all below" and "any below", each turned into what it says of every number, or of one, and back.
-use Prim.Native.Nat.{ℕ, zero, suc, _<_}
+use Prim.Native.Nat.{ℕ, zero, suc, _+_, _<_}
+use native.Mathlib.Numerals.{add-one}
 use native.Mathlib.Nat.{not-suc-le-zero, le-refl, le-step, eq-or-lt-of-le, le-of-suc-le-suc}
-use mathlib.Core.Bool.{Bool, true, false, _||_}
+use mathlib.Core.Bool.{Bool, true, false, _&&_, _||_}
 use mathlib.Core.Logic.{_⊎_, inl, inr, ⊎-elim}
 use mathlib.Core.Path.{_≡_, refl, sym, subst}
 use lib.Dec.{T}
@@ -40,6 +41,15 @@ pub all-of : (n : ℕ) (test : ℕ → Bool) → ((a : ℕ) → a < n → T (tes
 unfolding allBelow
 all-of zero test f = tt
 all-of (suc n) test f = and-i (test n) (allBelow n test) (f n (le-refl (suc n))) (all-of n test (λ a l. f a (le-step l)))
+
+-- a loop that asks one number after another
+pub all-none : (test : ℕ → Bool) → true ≡ allBelow 0 test
+unfolding allBelow
+all-none test = refl
+
+pub all-next : (n : ℕ) (test : ℕ → Bool) → test n && allBelow n test ≡ allBelow (n + 1) test
+unfolding allBelow
+all-next n test = rw add-one refl
 
 pub any-of : (n : ℕ) (test : ℕ → Bool) (a : ℕ) → a < n → T (test a) → T (anyBelow n test)
 unfolding anyBelow

@@ -8,7 +8,7 @@ use mathlib.Core.Bool.{Bool, true, false, Bool·beq}
 use lib.Dec.{T, ltb, eqb, ltb→lt, lt→ltb, eqb→eq, eqb-refl}
 use lib.Arith.{lt-one}
 use lib.Pow.{shr-lt, shr-shr}
-use lib.Bits.{bitAnd, and-step, and-shr, and-zero-l}
+use lib.Bits.{bitAnd, and-step, and-shr, and-zero-l, and-zero-r}
 use lib.Ieee.Fits.{and-i}
 use store.Enc.{and-l, and-r}
 use Rattle.labels.specs.Membership.{endpoints, allBelow}
@@ -61,6 +61,10 @@ within-and s t l =
     same (eqb (bitAnd s t) s) (within s t)
     (λ e. holds-subset (holds s) (holds t) (λ a k h. of-bit t a k (and-bits s t (eqb→eq (bitAnd s t) s e) a (bit-of s a h))))
     (λ w. rw (bits-and endpoints s t l (λ a k h. bit-of t a (subset-member (holds s) (holds t) (holds-below s) w a (of-bit s a k h)))) (eqb-refl s))
+
+-- only the empty word is within it
+pub within-none : (s : ℕ) → s < 2 ^ 32 → within s 0 ≡ eqb s 0
+within-none s l = sym (within-and s 0 l) ∙ rw (and-zero-r s) (same (eqb 0 s) (eqb s 0) (λ t. rw (eqb→eq 0 s t) (eqb-refl s)) (λ t. rw (eqb→eq s 0 t) tt))
 
 -- no endpoint is in the empty set, and each is in the set of all
 pub empty-holds : (a : ℕ) → T (holds empty a) → ⊥

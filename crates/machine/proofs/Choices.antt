@@ -3,7 +3,7 @@ use Prim.Native.Nat.{ℕ}
 use mathlib.Core.Bool.{Bool, true, false, not, _&&_, true≢false, false≢true}
 use mathlib.Core.List.{List, [], _∷_, _++_, map}
 use mathlib.Core.Logic.{_⊎_, inl, inr}
-use mathlib.Core.Path.{_≡_, refl, ap, subst}
+use mathlib.Core.Path.{_≡_, refl, sym, ap, _∙_, subst}
 use lib.Dec.{T, ltb}
 use lib.Ieee.Fits.{and-i}
 use store.Enc.{and-l, and-r}
@@ -44,6 +44,17 @@ module _ {A : Type 0} where
   unfolding branch
   one P true f g = f tt
   one P false f g = g tt
+
+-- what code that goes by a test's value has made, where the test passed and where it failed
+pub chosen : {A : Type 0} (r b : Bool) (x y : A) {z : A} → r ≡ b → r ≡ true → z ≡ x → z ≡ branch b x y
+unfolding branch
+chosen r true x y e t q = q
+chosen r false x y e t q = absurd (false≢true (sym e ∙ t))
+
+pub left-out : {A : Type 0} (r b : Bool) (x y : A) {z : A} → r ≡ b → r ≡ false → z ≡ y → z ≡ branch b x y
+unfolding branch
+left-out r true x y e t q = absurd (true≢false (sym e ∙ t))
+left-out r false x y e t q = q
 
 -- two choices by equal tests, of values that may have other types
 pub two : {A B : Type 0} (R : A → B → Type 0) (b c : Bool) {x y : A} {x′ y′ : B} → b ≡ c → (T b → R x x′) → (T (not b) → R y y′)

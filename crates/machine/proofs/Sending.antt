@@ -22,7 +22,7 @@ use Rattle.records.proofs.Runs.{carriable-read}
 use Rattle.machine.specs.Choice.{branch}
 use Rattle.machine.specs.Policy.{hostKeys, connections, cookieIndex, urlHost}
 use Rattle.machine.specs.Session.{cookieValue, keyMap, has, documentKind, scriptKind, attaches, requestMap, request, Effects}
-use Rattle.machine.specs.Scripts.{stopped}
+use Rattle.machine.specs.Scripts.{stepLimit, stopped}
 use Rattle.machine.specs.Machine.{outputRoom, outcome, feed}
 use Rattle.machine.specs.Guarantees.{areWords, SentReadsBack}
 use Rattle.machine.proofs.Choices.{parts, one}
@@ -96,16 +96,18 @@ all-carriable : (rs : List Record) → Each Writable rs → AllCarriable Request
 all-carriable [] all = none
 all-carriable (r ∷ rs) all = more (all .0 .0) (all .0 .1) (all-carriable rs (all .1))
 
--- what is sent can be written, and there is room for it
-sent-fits : (p scripts s bytes out : List ℕ) → T (areBytes scripts) → T (areWords s) → T (areBytes bytes)
-    → AllCarriable Request (outcome p scripts s bytes out .effects .sent) × (length (outcome p scripts s bytes out .effects .sent) * longest Request ≤ length out)
+-- what is sent can be written, there is room for it, and it is no more than the steps of a script
+abbrev Fits : List ℕ → Effects → Type 0
+Fits out e = AllCarriable Request (e .sent) × (length (e .sent) * longest Request ≤ length out) × (length (e .sent) ≤ stepLimit)
+
+pub sent-fits : (p scripts s bytes out : List ℕ) → T (areBytes scripts) → T (areWords s) → T (areBytes bytes) → Fits out (outcome p scripts s bytes out .effects)
 unfolding stopped
 sent-fits p scripts s bytes out ts ws bs =
-    either-way (λ (e : Effects). AllCarriable Request (e .sent) × (length (e .sent) * longest Request ≤ length out)) p scripts s bytes out
+    either-way (Fits out) p scripts s bytes out
     (λ ok.
     let (_, sent, few) = words-good p Writable (writable p) scripts s bytes out ts ws bs ok in
-    (all-carriable _ sent, le-trans (mul-le-mul-right (longest Request) few) (nltb→le (length out) outputRoom (ok .room))))
-    (none, omega arith)
+    (all-carriable _ sent, le-trans (mul-le-mul-right (longest Request) few) (nltb→le (length out) outputRoom (ok .room)), few))
+    (none, omega arith, omega arith)
 
 pub sent-reads-back : SentReadsBack
 unfolding feed

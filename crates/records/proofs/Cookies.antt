@@ -12,7 +12,7 @@ use borrow.Author.Tests.{ne-eqb}
 use lib.ListN.{length, getD, take, drop, set, length-set}
 use lib.Seq.{drop-cons, drop-drop, take-suc-set, take-all, sets, length-sets}
 use Rattle.records.specs.Bytes.{bit, number, digits}
-use Rattle.records.specs.Layout.{widths, sum, join, split, fits}
+use Rattle.records.specs.Layout.{keyNumbers, widths, sum, join, split, fits}
 use Rattle.records.specs.Places.{cookieWidths}
 use Rattle.records.proofs.Digits.{length-digits}
 
@@ -25,6 +25,12 @@ unfolding numbers
 map-at f zero from k l = absurd (not-suc-le-zero l)
 map-at f (suc n) from zero l = ap f (sym (add-zero from))
 map-at f (suc n) from (suc k) l = map-at f n (suc from) k (le-of-suc-le-suc l) ∙ ap f (omega arith)
+
+-- the keys from one on: itself, and those after it
+pub keys-from : (key : ℕ) → key < 8 → drop key keyNumbers ≡ key ∷ drop (suc key) keyNumbers
+unfolding numbers
+keys-from key l =
+    drop-cons keyNumbers key 0 l ∙ ap (λ (k : ℕ). k ∷ drop (suc key) keyNumbers) (map-at (λ k. k) 8 0 key l ∙ zero-add key)
 
 module _ (keys key : ℕ) (l : key < 8) where
   -- the widths from a key on: its own, and those after it

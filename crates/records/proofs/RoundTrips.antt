@@ -210,10 +210,10 @@ unfolding readRun
 joined-read d rs all = read-at-most (length (joined rs)) d all (short d all)
 
 -- a list whose first record is accepted: its bytes, and the rest in what follows them
-after : List ℕ → Written → Written
+unfoldable pub after : List ℕ → Written → Written
 after bytes rest = record { number = rest .number; length = length bytes + rest .length; buffer = bytes ++ rest .buffer }
 
-first-written : (d : Direction) (r : Record) (rs : List Record) (out : List ℕ) → writeRefusal d r out ≡ accepted
+pub first-written : (d : Direction) (r : Record) (rs : List Record) (out : List ℕ) → writeRefusal d r out ≡ accepted
     → writeRun d (r ∷ rs) out ≡ after (bytesOf r) (writeRun d rs (drop (length (bytesOf r)) out))
 unfolding writeRun after
 first-written d r rs out e =
@@ -223,7 +223,7 @@ chosen : (n : ℕ) (both first : Written) → first .number ≡ n → cond (eqb 
 chosen zero both first q e = refl
 chosen (suc n) both first q e = sym q ∙ (rw (eqb·suc-zero n) at e)
 
-first-accepted : (d : Direction) (r : Record) (rs : List Record) (out : List ℕ) → writeRun d (r ∷ rs) out .number ≡ accepted → writeRefusal d r out ≡ accepted
+pub first-accepted : (d : Direction) (r : Record) (rs : List Record) (out : List ℕ) → writeRun d (r ∷ rs) out .number ≡ accepted → writeRefusal d r out ≡ accepted
 unfolding writeRun
 first-accepted d r rs out e =
     let first = encoded d r out in

@@ -52,7 +52,7 @@ module _ (d : Direction) where
   carriable-fits : (r : Record) → T (carriable d r) → length (bytesOf r) ≤ longest d
   carriable-fits r ok = omega (arith, bytes-length r, size-longest d (r .map) (r .keys) (known d r ok))
 
-  encoded-kept : (r : Record) (out : List ℕ) → Kept out (encoded d r out)
+  pub encoded-kept : (r : Record) (out : List ℕ) → Kept out (encoded d r out)
   unfolding encoded
   encoded-kept r out = choice-kept out (eqb (writeRefusal d r out) accepted) _ _ (λ t. whole (eqb→eq (writeRefusal d r out) accepted t)) (λ _. (zero-le, refl, refl))
     where
@@ -77,15 +77,18 @@ module _ (d : Direction) where
   eight-each none = tt
   eight-each (more eight ok all) = (eight, eight-each all)
 
-  all-written : {rs : List Record} → AllCarriable d rs → (out : List ℕ) → length rs * longest d ≤ length out → writeRun d rs out .number ≡ accepted
+  -- they are all written, in no more bytes than as many of the longest
+  pub all-written : {rs : List Record} → AllCarriable d rs → (out : List ℕ) → length rs * longest d ≤ length out
+      → (writeRun d rs out .number ≡ accepted) × (writeRun d rs out .length ≤ length rs * longest d)
   unfolding writeRun
-  all-written none out l = refl
+  all-written none out l = (refl, zero-le)
   all-written (more {r} {rs} eight ok all) out l =
       let fit : length (bytesOf r) ≤ longest d = carriable-fits r ok in
+      let rest = all-written all (drop (length (bytesOf r)) out) (simp length-drop (omega arith)) in
       rw (encoded-accepted d r out (no-write-refusal d r out (omega arith) (passed (carriable d r) ok)), drop-at (bytesOf r) (drop (length (bytesOf r)) out) (length (bytesOf r)) refl)
-      (all-written all (drop (length (bytesOf r)) out) (simp length-drop (omega arith)))
+      (rest .0, omega arith)
 
   -- carriable records are read back where the buffer has room for as many of the longest
   pub carriable-read : {rs : List Record} → AllCarriable d rs → (out : List ℕ) → length rs * longest d ≤ length out
       → readRun d (take (writeRun d rs out .length) (writeRun d rs out .buffer)) ≡ record { records = rs; left = [] }
-  carriable-read {rs} all out l = run-is-read d rs out (eight-each all) (all-written all out l)
+  carriable-read {rs} all out l = run-is-read d rs out (eight-each all) (all-written all out l .0)

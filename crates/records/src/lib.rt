@@ -1,10 +1,12 @@
 // Records: the wire format of what the monitor is fed and what it sends (document 01, "Records").
 ghost use mathlib.Core.Path.{_≡_};
-ghost use Rattle.records.specs.Codec.{refused, decoded, written, encoded};
+ghost use Rattle.records.specs.Codec.{refused, decoded, written, encoded, firstRecord};
+ghost use lib.ListN.{length};
 
 mod bytes;
 mod checks;
 mod fields;
+pub mod map_bytes;
 mod places;
 
 use checks::carriable;
@@ -118,4 +120,19 @@ pub fn encode(direction: Direction, fields: Record, out: &mut [u8]) -> Encoded
         number: ACCEPTED,
         length,
     }
+}
+
+// How many bytes the first of some records one after another has: as many as its maps call for, or as there are.
+pub fn first_length(bytes: &[u8]) -> usize
+    ensures { λ r. ⌜ r ≡ length (firstRecord (now (bytes .entry))) ⌝ }
+{
+    if bytes.len() == 0 {
+        return 0;
+    }
+    let map = bytes[0];
+    let size = Places::of(map, key_map(map, bytes)).end;
+    if bytes.len() < size {
+        return bytes.len();
+    }
+    size
 }
