@@ -1,0 +1,84 @@
+-- The rows of a policy: a test of the address settles whether one is well formed, and whether it is empty.
+use Prim.Native.Nat.{ℕ, _^_, _<_, _≤_}
+use native.Mathlib.Omega.{arith}
+use mathlib.Core.Bool.{Bool, true, false, not, _&&_, _||_, and-assoc, or-false}
+use mathlib.Core.List.{List}
+use mathlib.Core.Logic.{⊎-elim}
+use mathlib.Core.Path.{_≡_, refl, sym, _∙_, subst}
+use lib.Dec.{T, T-not, ltb, leb, eqb, ltb→lt, leb→le, le→leb}
+use lib.ListN.{length}
+use borrow.Author.Tests.{leb-true, lt-ltb, le-ltb, eq-eqb, ne-eqb}
+use store.Enc.{and-l, and-r}
+use Rattle.labels.specs.Membership.{endpoints, allBelow}
+use Rattle.labels.specs.Sets.{holds, within}
+use Rattle.labels.specs.Addresses.{eventSet}
+use Rattle.labels.proofs.Below.{same, all-at, or-cases}
+use Rattle.labels.proofs.Endpoints.{event-within}
+use Rattle.labels.proofs.Words.{within-none}
+use Rattle.machine.proofs.Choices.{is-true}
+use Rattle.machine.specs.Policy.{policyWords, urlRows, connections, urlAddress, urlReaders, urlWriters, urlEvent, noAddress, emptyRow, rowWellFormed, connectionWellFormed, wellFormed, isUrl}
+use Rattle.policy.specs.Given.{WellFormed, Url}
+
+module _ (p : List ℕ) (u : ℕ) where
+  -- a row with an address
+  pub row-named : urlAddress p u ≤ 31 → within (eventSet (urlAddress p u)) (urlReaders p u) ≡ rowWellFormed p u
+  unfolding rowWellFormed emptyRow
+  row-named l =
+      event-within (urlAddress p u) (urlReaders p u) (omega arith)
+      ∙ rw (ne-eqb (urlAddress p u) noAddress (λ e. omega arith), lt-ltb (urlAddress p u) endpoints (omega arith))
+
+  -- a row with none
+  pub row-empty : 31 < urlAddress p u → urlReaders p u < 2 ^ 32 → urlWriters p u < 2 ^ 32
+      → (eqb (urlAddress p u) 255 && within (urlReaders p u) 0) && within (urlWriters p u) 0 ≡ rowWellFormed p u
+  unfolding rowWellFormed emptyRow
+  row-empty l lr lw =
+      rw (within-none (urlReaders p u) lr, within-none (urlWriters p u) lw, le-ltb (urlAddress p u) endpoints l, or-false, and-assoc)
+
+  row-formed : T (wellFormed p) → u < urlRows → T (rowWellFormed p u)
+  unfolding wellFormed
+  row-formed t l =
+      all-at urlRows (rowWellFormed p)
+      (and-l (allBelow urlRows (rowWellFormed p)) (allBelow connections (connectionWellFormed p))
+      (and-r (eqb (length p) policyWords) (allBelow urlRows (rowWellFormed p) && allBelow connections (connectionWellFormed p)) t)) u l
+
+  -- whether a number names a URL
+  pub url-beyond : urlRows ≤ u → false ≡ isUrl p u
+  unfolding isUrl
+  url-beyond l = rw (le-ltb u urlRows l)
+
+  pub url-named : T (wellFormed p) → u < urlRows → leb (urlAddress p u) 31 ≡ isUrl p u
+  unfolding isUrl emptyRow rowWellFormed
+  url-named t l =
+      rw (lt-ltb u urlRows l)
+      (same (leb (urlAddress p u) 31) (not (emptyRow p u))
+      (λ h. rw (ne-eqb (urlAddress p u) noAddress (λ e. absurd (omega (arith, leb→le (urlAddress p u) 31 h)))) tt)
+      (λ h. le→leb (urlAddress p u) 31 (addressed h)))
+    where
+      addressed : T (not (emptyRow p u)) → urlAddress p u ≤ 31
+      addressed h =
+          ⊎-elim (λ e. absurd (T-not (emptyRow p u) h e))
+          (λ r. omega (arith, ltb→lt (urlAddress p u) endpoints (and-l (ltb (urlAddress p u) endpoints) (holds (urlReaders p u) (urlEvent p u)) r)))
+          (or-cases (emptyRow p u) (ltb (urlAddress p u) endpoints && holds (urlReaders p u) (urlEvent p u)) (row-formed t l))
+
+  pub url-given : u < urlRows → leb (urlAddress p u) 31 ≡ true → Url p u
+  url-given l t = record { row = l; address = omega (arith, leb-true (urlAddress p u) 31 t) }
+
+-- a number that passes the test of the definition
+pub named-url : (p : List ℕ) (u : ℕ) → T (wellFormed p) → T (isUrl p u) → Url p u
+unfolding isUrl
+named-url p u t n =
+    let l = ltb→lt u urlRows (and-l (ltb u urlRows) (not (emptyRow p u)) n) in
+    url-given p u l (url-named p u t l ∙ is-true (isUrl p u) n)
+
+-- the whole policy
+module _ (p : List ℕ) where
+  pub formed-length : (length p ≡ policyWords → ⊥) → false ≡ wellFormed p
+  unfolding wellFormed
+  formed-length ne = rw (ne-eqb (length p) policyWords ne)
+
+  pub formed-parts : length p ≡ policyWords → allBelow urlRows (rowWellFormed p) && allBelow connections (connectionWellFormed p) ≡ wellFormed p
+  unfolding wellFormed
+  formed-parts e = rw (eq-eqb (length p) policyWords e)
+
+  pub formed-given : length p ≡ policyWords → wellFormed p ≡ true → WellFormed p
+  formed-given e t = record { long = e; formed = subst T (sym t) tt }

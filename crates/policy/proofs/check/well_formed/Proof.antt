@@ -1,0 +1,22 @@
+-- `check::well_formed` meets its contract: the length, and the two parts of the test.
+use borrow.Author.Needs.{needs}
+use denote.Ref.{now}
+use mathlib.Core.Bool.{_&&_, false≢true}
+use mathlib.Core.Path.{_≡_, sym, _∙_}
+use Rattle.machine.specs.Policy.{wellFormed}
+use Rattle.policy.proofs.Rows.{formed-length, formed-parts, formed-given}
+use Rattle.policy.proofs.check.well_formed.Statement.{statement}
+use Rattle.policy.proofs.check.well_formed.Tie as tie
+
+returns : tie.Need-returns
+returns c = (formed-length (now (c .before .before .args .policy)) (c .if1 .taken), λ e. absurd (false≢true e))
+
+returns-2 : tie.Need-returns-2
+returns-2 c =
+    let p = now (c .before .before .before .before .args .policy) in
+    let same : c .before .rows-well-formed .result && c .connections-well-formed .result ≡ wellFormed p =
+    rw (c .before .rows-well-formed .ensures, c .connections-well-formed .ensures) (formed-parts p (c .before .before .if1 .left)) in
+    (same, λ t. formed-given p (c .before .before .if1 .left) (sym same ∙ t))
+
+pub well-formed-spec : {M : Type 1} → statement M
+well-formed-spec = tie.close (tie.spec returns (λ c κs. search needs) (λ c κs. search needs) returns-2)

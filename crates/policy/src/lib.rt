@@ -1,0 +1,150 @@
+// The questions that a policy answers (document 01, "The policy", "Scripts" and "The monitor's numbers"), each equal to its definition
+// in `machine`. A connection is document 01's lane; readers and writers are its readers and authors.
+ghost use mathlib.Core.Path.{_≡_};
+ghost use mathlib.Core.Bool.{true};
+ghost use Prim.Native.Nat.{_<_};
+ghost use Rattle.labels.specs.Addresses.{hosts};
+ghost use Rattle.labels.specs.Sets.{holds};
+ghost use Rattle.machine.specs.Policy.{hostKeys, connections, cookieIndex, cookieReaders, urlHost, urlMessage, urlEvent, isUrl, fits, mayStore, mayRead, mayWrite, maySend, loadReaders, loadWriters, redirectReaders, redirectWriters};
+ghost use Rattle.policy.specs.Given.{WellFormed, Url};
+
+pub mod check;
+pub mod words;
+
+use labels::EndpointSet;
+use labels::LAST_ENDPOINT;
+use labels::addresses::event_set;
+use labels::addresses::message_set;
+use words::HOSTS;
+use words::URL_ROWS;
+use words::connection_readers;
+use words::connection_writers;
+use words::cookie_readers;
+use words::cookie_writers;
+use words::script_readers;
+use words::url_address;
+use words::url_readers;
+use words::url_writers;
+
+// Whether a number names a URL: a row that is not empty. In a well formed policy those are the rows that have an address.
+pub fn is_url(policy: &[u32], url: usize) -> bool
+    requires { ⌜ WellFormed (now policy) ⌝ }
+    ensures { λ r. ⌜ (r ≡ isUrl (now (policy .entry)) url) × (r ≡ true → Url (now (policy .entry)) url) ⌝ }
+{
+    if URL_ROWS <= url {
+        return false;
+    }
+    url_address(policy, url) <= LAST_ENDPOINT
+}
+
+pub fn url_host(policy: &[u32], url: usize) -> usize
+    requires { ⌜ WellFormed (now policy) × Url (now policy) url ⌝ }
+    ensures { λ r. ⌜ (r ≡ urlHost (now (policy .entry)) url) × (r < hosts) ⌝ }
+{
+    url_address(policy, url) as usize % HOSTS
+}
+
+// Whether a set holds the message endpoint of a URL, and whether it holds the event endpoint: the endpoint's own set is within it.
+fn message_in(policy: &[u32], url: usize, set: EndpointSet) -> bool
+    requires { ⌜ WellFormed (now policy) × Url (now policy) url ⌝ }
+    ensures { λ r. ⌜ r ≡ holds (set .bits) (urlMessage (now (policy .entry)) url) ⌝ }
+{
+    message_set(url_address(policy, url)).within(set)
+}
+
+fn event_in(policy: &[u32], url: usize, set: EndpointSet) -> bool
+    requires { ⌜ WellFormed (now policy) × Url (now policy) url ⌝ }
+    ensures { λ r. ⌜ r ≡ holds (set .bits) (urlEvent (now (policy .entry)) url) ⌝ }
+{
+    event_set(url_address(policy, url)).within(set)
+}
+
+// 002, T-LOAD.
+pub fn fits(policy: &[u32], connection: usize, url: usize) -> bool
+    requires { ⌜ WellFormed (now policy) × (connection < connections) × Url (now policy) url ⌝ }
+    ensures { λ r. ⌜ r ≡ fits (now (policy .entry)) connection url ⌝ }
+{
+    connection_readers(policy, connection).within(url_readers(policy, url))
+        & message_in(policy, url, connection_writers(policy, connection))
+}
+
+// Whether a request to a URL may carry a cookie: its readers hold the URL's message endpoint.
+pub fn may_carry(policy: &[u32], url: usize, host: usize, key: usize) -> bool
+    requires { ⌜ WellFormed (now policy) × (host < hosts) × (key < hostKeys) × Url (now policy) url ⌝ }
+    ensures { λ r. ⌜ r ≡ holds (cookieReaders (now (policy .entry)) (cookieIndex host key)) (urlMessage (now (policy .entry)) url) ⌝ }
+{
+    message_in(policy, url, cookie_readers(policy, host, key))
+}
+
+// Whether a cookie that a response or redirect on a connection delivers is stored.
+pub fn may_store(policy: &[u32], connection: usize, host: usize, key: usize) -> bool
+    requires { ⌜ WellFormed (now policy) × (connection < connections) × (host < hosts) × (key < hostKeys) ⌝ }
+    ensures { λ r. ⌜ r ≡ mayStore (now (policy .entry)) connection (cookieIndex host key) ⌝ }
+{
+    cookie_readers(policy, host, key).within(connection_readers(policy, connection))
+        & connection_writers(policy, connection).within(cookie_writers(policy, host, key))
+}
+
+// Step 3, by a script of a response on the connection.
+pub fn may_read(policy: &[u32], connection: usize, host: usize, key: usize) -> bool
+    requires { ⌜ WellFormed (now policy) × (connection < connections) × (host < hosts) × (key < hostKeys) ⌝ }
+    ensures { λ r. ⌜ r ≡ mayRead (now (policy .entry)) connection (cookieIndex host key) ⌝ }
+{
+    script_readers(policy, connection).within(cookie_readers(policy, host, key))
+        & cookie_writers(policy, host, key).within(connection_writers(policy, connection))
+}
+
+// Step 4.
+pub fn may_write(policy: &[u32], connection: usize, host: usize, key: usize) -> bool
+    requires { ⌜ WellFormed (now policy) × (connection < connections) × (host < hosts) × (key < hostKeys) ⌝ }
+    ensures { λ r. ⌜ r ≡ mayWrite (now (policy .entry)) connection (cookieIndex host key) ⌝ }
+{
+    cookie_readers(policy, host, key).within(script_readers(policy, connection))
+        & connection_writers(policy, connection).within(cookie_writers(policy, host, key))
+}
+
+// Step 5: a script of a response on `connection` requests a URL on the connection `via`.
+pub fn may_send(policy: &[u32], connection: usize, url: usize, via: usize) -> bool
+    requires { ⌜ WellFormed (now policy) × (connection < connections) × (via < connections) × Url (now policy) url ⌝ }
+    ensures { λ r. ⌜ r ≡ maySend (now (policy .entry)) connection url via ⌝ }
+{
+    let readers = script_readers(policy, connection);
+    let writers = connection_writers(policy, connection);
+    event_in(policy, url, readers)
+        & connection_readers(policy, via).within(readers)
+        & fits(policy, via, url)
+        & writers.within(connection_writers(policy, via))
+        & writers.within(url_writers(policy, url))
+}
+
+// Refusals 8 and 9 of a load.
+pub fn load_readers(policy: &[u32], connection: usize, url: usize) -> bool
+    requires { ⌜ WellFormed (now policy) × (connection < connections) × Url (now policy) url ⌝ }
+    ensures { λ r. ⌜ r ≡ loadReaders (now (policy .entry)) connection url ⌝ }
+{
+    connection_readers(policy, connection).within(url_readers(policy, url))
+}
+
+pub fn load_writers(policy: &[u32], connection: usize, url: usize) -> bool
+    requires { ⌜ WellFormed (now policy) × (connection < connections) × Url (now policy) url ⌝ }
+    ensures { λ r. ⌜ r ≡ loadWriters (now (policy .entry)) connection url ⌝ }
+{
+    message_in(policy, url, connection_writers(policy, connection))
+}
+
+// Refusals 8 and 9 of a redirect to a target.
+pub fn redirect_readers(policy: &[u32], connection: usize, target: usize) -> bool
+    requires { ⌜ WellFormed (now policy) × (connection < connections) × Url (now policy) target ⌝ }
+    ensures { λ r. ⌜ r ≡ redirectReaders (now (policy .entry)) connection target ⌝ }
+{
+    let readers = connection_readers(policy, connection);
+    event_in(policy, target, readers) & readers.within(url_readers(policy, target))
+}
+
+pub fn redirect_writers(policy: &[u32], connection: usize, target: usize) -> bool
+    requires { ⌜ WellFormed (now policy) × (connection < connections) × Url (now policy) target ⌝ }
+    ensures { λ r. ⌜ r ≡ redirectWriters (now (policy .entry)) connection target ⌝ }
+{
+    let writers = connection_writers(policy, connection);
+    message_in(policy, target, writers) & writers.within(url_writers(policy, target))
+}

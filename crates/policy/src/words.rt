@@ -1,0 +1,93 @@
+// The words of a policy by name. Each word that is a set becomes one here.
+ghost use mathlib.Core.Path.{_≡_};
+ghost use Prim.Native.Nat.{_<_};
+ghost use lib.ListN.{length};
+ghost use Rattle.labels.specs.Addresses.{hosts};
+ghost use Rattle.machine.specs.Policy.{policyWords, urlRows, hostKeys, connections, cookieIndex, urlAddress, urlReaders, urlWriters, cookieReaders, cookieWriters, connectionReaders, scriptReaders, connectionWriters};
+use labels::EndpointSet;
+
+pub const URL_ROWS: usize = 64;
+
+pub const HOSTS: usize = 16;
+
+// The keys of a host's cookies are below this.
+pub const HOST_KEYS: usize = 8;
+
+pub const CONNECTIONS: usize = 32;
+
+const COOKIE_LABELS_AT: usize = 192;
+
+const CONNECTION_LABELS_AT: usize = 448;
+
+pub const WORDS: usize = 544;
+
+pub fn url_address(policy: &[u32], url: usize) -> u32
+    requires { ⌜ (length (now policy) ≡ policyWords) × (url < urlRows) ⌝ }
+    ensures { λ r. ⌜ r ≡ urlAddress (now (policy .entry)) url ⌝ }
+{
+    policy[3 * url]
+}
+
+pub fn url_readers(policy: &[u32], url: usize) -> EndpointSet
+    requires { ⌜ (length (now policy) ≡ policyWords) × (url < urlRows) ⌝ }
+    ensures { λ r. ⌜ r .bits ≡ urlReaders (now (policy .entry)) url ⌝ }
+{
+    EndpointSet {
+        bits: policy[3 * url + 1],
+    }
+}
+
+pub fn url_writers(policy: &[u32], url: usize) -> EndpointSet
+    requires { ⌜ (length (now policy) ≡ policyWords) × (url < urlRows) ⌝ }
+    ensures { λ r. ⌜ r .bits ≡ urlWriters (now (policy .entry)) url ⌝ }
+{
+    EndpointSet {
+        bits: policy[3 * url + 2],
+    }
+}
+
+// A cookie is named by its host and its key.
+pub fn cookie_readers(policy: &[u32], host: usize, key: usize) -> EndpointSet
+    requires { ⌜ (length (now policy) ≡ policyWords) × (host < hosts) × (key < hostKeys) ⌝ }
+    ensures { λ r. ⌜ r .bits ≡ cookieReaders (now (policy .entry)) (cookieIndex host key) ⌝ }
+{
+    EndpointSet {
+        bits: policy[COOKIE_LABELS_AT + 2 * (HOST_KEYS * host + key)],
+    }
+}
+
+pub fn cookie_writers(policy: &[u32], host: usize, key: usize) -> EndpointSet
+    requires { ⌜ (length (now policy) ≡ policyWords) × (host < hosts) × (key < hostKeys) ⌝ }
+    ensures { λ r. ⌜ r .bits ≡ cookieWriters (now (policy .entry)) (cookieIndex host key) ⌝ }
+{
+    EndpointSet {
+        bits: policy[COOKIE_LABELS_AT + 2 * (HOST_KEYS * host + key) + 1],
+    }
+}
+
+pub fn connection_readers(policy: &[u32], connection: usize) -> EndpointSet
+    requires { ⌜ (length (now policy) ≡ policyWords) × (connection < connections) ⌝ }
+    ensures { λ r. ⌜ r .bits ≡ connectionReaders (now (policy .entry)) connection ⌝ }
+{
+    EndpointSet {
+        bits: policy[CONNECTION_LABELS_AT + 3 * connection],
+    }
+}
+
+pub fn script_readers(policy: &[u32], connection: usize) -> EndpointSet
+    requires { ⌜ (length (now policy) ≡ policyWords) × (connection < connections) ⌝ }
+    ensures { λ r. ⌜ r .bits ≡ scriptReaders (now (policy .entry)) connection ⌝ }
+{
+    EndpointSet {
+        bits: policy[CONNECTION_LABELS_AT + 3 * connection + 1],
+    }
+}
+
+pub fn connection_writers(policy: &[u32], connection: usize) -> EndpointSet
+    requires { ⌜ (length (now policy) ≡ policyWords) × (connection < connections) ⌝ }
+    ensures { λ r. ⌜ r .bits ≡ connectionWriters (now (policy .entry)) connection ⌝ }
+{
+    EndpointSet {
+        bits: policy[CONNECTION_LABELS_AT + 3 * connection + 2],
+    }
+}
