@@ -1,0 +1,99 @@
+-- A map of keys as a word: its bits are the keys that pass, and a key is added by "or" or, above the others, by a sum.
+use Prim.Native.Nat.{ℕ, zero, suc, _+_, _*_, _/_, _%_, _^_, _<_, _≤_, max, suc-le-suc}
+use native.Mathlib.Nat.{zero-lt-suc, lt-trans, lt-of-le-of-lt, lt-of-lt-of-le, one-mul, pow-suc, div-one, mod-one, mod-eq-of-lt, div-eq-of-lt}
+use native.Mathlib.Numerals.{add-one}
+use native.Mathlib.Omega.{arith}
+use mathlib.Core.Bool.{Bool, true, false, _||_}
+use mathlib.Core.Path.{_≡_, refl, sym, ap, _∙_}
+use lib.Dec.{lit<, eqb, eqb·suc-zero, eqb·zero-suc, eqb·suc-suc}
+use borrow.Author.Tests.{eqb-true, eqb-false}
+use lib.Bits.{bitOr, or-step, or-shr}
+use lib.Pow.{shr-shr, mod-pow-add, pow-lt, pow-mono}
+use mir.Val.{boolByte}
+use Rattle.machine.specs.Choice.{branch}
+use Rattle.machine.specs.Policy.{hostKeys}
+use Rattle.machine.specs.Session.{has, mapBelow, keyMap}
+use Rattle.machine.proofs.KeyMaps.{map-below}
+
+-- what the code's shift makes
+single : (k : ℕ) → k < hostKeys → 1 * 2 ^ k % 4294967296 ≡ 2 ^ k
+single k l = rw (one-mul (2 ^ k)) (mod-eq-of-lt (lt-trans (pow-lt l) (lit< tt)))
+
+half-bit : (y j : ℕ) → y / 2 / 2 ^ j % 2 ≡ y / 2 ^ suc j % 2
+half-bit y j = ap (λ (x : ℕ). x % 2) (shr-shr y 1 j ∙ ap (λ (i : ℕ). y / 2 ^ i) (omega arith))
+
+-- the digit that a bit is
+digit : (y : ℕ) (b : Bool) → eqb (y / 1 % 2) 1 ≡ b → y % 2 ≡ branch b 1 0
+unfolding branch
+digit y true e = omega (arith, eqb-true (y / 1 % 2) 1 e, div-one y)
+digit y false e = omega (arith, eqb-false (y / 1 % 2) 1 e, div-one y)
+
+-- a word with the bits of a test is its map, up to the bits that are asked
+of-bits : (n y : ℕ) (test : ℕ → Bool) → ((j : ℕ) → j < n → has y j ≡ test j) → y % 2 ^ n ≡ mapBelow n test
+unfolding has mapBelow
+of-bits zero y test f = mod-one y
+of-bits (suc n) y test f =
+    let rest : y / 2 % 2 ^ n ≡ mapBelow n (λ j. test (suc j)) =
+    of-bits n (y / 2) (λ j. test (suc j)) (λ j l. ap (λ (x : ℕ). eqb x 1) (half-bit y j) ∙ f (suc j) (suc-le-suc l)) in
+    let low : y % 2 ≡ branch (test 0) 1 0 = digit y (test 0) (f 0 (zero-lt-suc n)) in
+    let whole = mod-pow-add y n 1 in
+    rw (← add-one n) (omega (arith, whole, rest, low))
+
+-- ---- a key added by "or"
+
+-- the only bit of a power of two
+power-bit : (k j : ℕ) → 2 ^ k / 2 ^ j % 2 ≡ branch (eqb j k) 1 0
+unfolding branch
+power-bit zero zero = refl
+power-bit zero (suc j) = rw (eqb·suc-zero j) (ap (λ (x : ℕ). x % 2) (div-eq-of-lt (pow-lt {i = 0} {j = suc j} (zero-lt-suc j))))
+power-bit (suc k) zero = rw (eqb·zero-suc k, div-one (2 ^ suc k), pow-suc 2 k) (omega arith)
+power-bit (suc k) (suc j) =
+    sym (half-bit (2 ^ suc k) j) ∙ ap (λ (x : ℕ). x / 2 ^ j % 2) (halved (2 ^ k) (pow-suc 2 k)) ∙ power-bit k j
+    ∙ ap (λ (b : Bool). branch b 1 0) (sym (eqb·suc-suc j k))
+  where
+    halved : {y : ℕ} (x : ℕ) → y ≡ x * 2 → y / 2 ≡ x
+    halved x e = omega arith
+
+-- one of two bits is 1
+either-bit : (b : Bool) (x : ℕ) → x < 2 → eqb (max x (branch b 1 0)) 1 ≡ b || eqb x 1
+unfolding branch
+either-bit true zero l = refl
+either-bit false zero l = refl
+either-bit true (suc zero) l = refl
+either-bit false (suc zero) l = refl
+either-bit b (suc (suc x)) l = absurd (omega arith)
+
+or-bit : (x k j : ℕ) → has (bitOr x (2 ^ k)) j ≡ eqb j k || has x j
+unfolding has
+or-bit x k j =
+    let e : bitOr x (2 ^ k) / 2 ^ j % 2 ≡ max (x / 2 ^ j % 2) (2 ^ k / 2 ^ j % 2) =
+    ap (λ (y : ℕ). y % 2) (or-shr x (2 ^ k) j) ∙ omega (arith, or-step (x / 2 ^ j) (2 ^ k / 2 ^ j)) in
+    ap (λ (y : ℕ). eqb y 1) (e ∙ ap (max (x / 2 ^ j % 2)) (power-bit k j)) ∙ either-bit (eqb j k) (x / 2 ^ j % 2) (omega arith)
+
+pub with-key : (x k : ℕ) → k < hostKeys → bitOr x (1 * 2 ^ k % 4294967296) % 256 ≡ keyMap (λ j. eqb j k || has x j)
+with-key x k l =
+    ap (λ (y : ℕ). bitOr x y % 256) (single k l) ∙ of-bits hostKeys (bitOr x (2 ^ k)) (λ j. eqb j k || has x j) (λ j _. or-bit x k j)
+
+-- ---- a key added above the others
+
+map-next : (n : ℕ) (test : ℕ → Bool) → mapBelow n test + branch (test n) 1 0 * 2 ^ n ≡ mapBelow (n + 1) test
+unfolding mapBelow
+map-next zero test = omega arith
+map-next (suc n) test = rw (add-one, pow-suc 2 n) (omega (arith, rw add-one at (map-next n (λ k. test (suc k)))))
+
+pub added : (n keys : ℕ) (test : ℕ → Bool) (b : Bool) → n < hostKeys → keys ≡ mapBelow n test → b ≡ test n
+    → keys + boolByte b * 2 ^ n % 4294967296 ≡ mapBelow (n + 1) test
+unfolding branch
+added n keys test b l e t =
+    rw (e, mod-eq-of-lt (lt-of-le-of-lt (small b) (lt-trans (pow-lt l) (lit< tt))), as-digit b, t) (map-next n test)
+  where
+    small : (b : Bool) → boolByte b * 2 ^ n ≤ 2 ^ n
+    small true = omega arith
+    small false = omega arith
+
+    as-digit : (b : Bool) → boolByte b ≡ branch b 1 0
+    as-digit true = refl
+    as-digit false = refl
+
+pub map-small : (n : ℕ) (test : ℕ → Bool) → n ≤ hostKeys → mapBelow n test < 256
+map-small n test l = lt-of-lt-of-le (map-below n test) (pow-mono l)

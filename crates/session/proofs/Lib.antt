@@ -1,0 +1,5 @@
+pub mod KeyBits
+pub mod KeyLoops
+pub mod Made
+pub mod Outputs
+pub mod SoundStates

@@ -1,0 +1,40 @@
+-- `cookies::store_cookies` meets its contract: the cookies stored so far, and those from a key on, are all of them.
+use Prim.Native.Nat.{_-_, zero-le}
+use borrow.Author.Needs.{needs}
+use denote.Ref.{now}
+use mathlib.Core.Path.{_≡_, refl, sym, _∙_}
+use native.Mathlib.Omega.{arith}
+use Rattle.machine.specs.Choice.{keep}
+use Rattle.machine.specs.Policy.{hostKeys}
+use Rattle.machine.specs.Session.{storeCookies}
+use Rattle.session.proofs.KeyLoops.{Storing, storing-goes-on}
+use Rattle.session.proofs.cookies.store_cookies.Statement.{statement}
+use Rattle.session.proofs.cookies.store_cookies.Tie as tie
+
+abbrev Inv-loop : tie.InvT-loop
+Inv-loop policy state₀ connection host keys values key₀ state key = Storing policy connection host keys values state₀ state key
+
+abbrev μ-loop : tie.MeasureT-loop
+μ-loop policy state₀ connection host keys values key₀ state key = hostKeys - key
+
+loop-holds : tie.Need-loop-holds Inv-loop μ-loop
+loop-holds c = record { below = zero-le; long = search needs; remains = refl }
+
+loop-again : tie.Need-loop-again Inv-loop μ-loop
+loop-again c =
+    let l = c .before .before .before .before .before .loop in
+    let a = c .before .before .before .before .before .before .before .before .args in
+    let call = c .before .before .store-if-delivered in
+    storing-goes-on (now (a .policy)) (a .connection) (a .host) (a .keys) (a .t6) (now (a .state)) (l .state) (call .last .1 .0) (l .key)
+    (c .before .before .before .before .loop-test .taken) (l .inv) (call .kept .1 .0) (call .ensures)
+
+same-length : tie.Need-same-length Inv-loop μ-loop
+same-length c = c .before .loop .inv .long ∙ sym (c .before .before .before .before .pre .1)
+
+returns : tie.Need-returns Inv-loop μ-loop
+unfolding storeCookies keep
+returns c = let l = c .before .loop in let all : l .key ≡ hostKeys = omega arith in rw all at (l .inv .remains)
+
+pub store-cookies-spec : {M : Type 1} → statement M
+store-cookies-spec =
+    tie.close (tie.spec Inv-loop μ-loop loop-holds (λ c. search needs) (λ c. search needs) (λ c κs. search needs) (λ c. search needs) (λ c. search needs) loop-again same-length returns)

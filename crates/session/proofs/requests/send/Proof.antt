@@ -1,0 +1,24 @@
+-- `requests::send` meets its contract: the request is written, and then the connection is set.
+use borrow.Author.Needs.{needs}
+use Rattle.session.proofs.requests.send.Statement.{statement}
+use Rattle.session.proofs.requests.send.Tie as tie
+
+returns : tie.Need-returns
+returns c =
+    let set = c .before .before .set-connection in
+    let pack = c .before .before .before .word in
+    let write = c .before .before .before .before .before .before .before .write-next in
+    let made = c .before .before .before .before .before .before .before .before .before .request in
+    (rw (pack .ensures) at (set .ensures), rw (made .ensures) at (write .ensures .0), write .ensures .1)
+
+pub send-spec : {M : Type 1} → statement M
+send-spec =
+    tie.close
+    (tie.spec
+    (λ c κs. search needs)
+    (λ c κs. search needs)
+    (λ c κs. search needs)
+    (λ c κs. search needs)
+    (λ c. search needs)
+    (λ c. search needs)
+    returns)

@@ -1,0 +1,3 @@
+pub mod Delivered
+pub mod Output
+pub mod Kinds
