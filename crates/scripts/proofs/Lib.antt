@@ -1,0 +1,2 @@
+pub mod OneStep
+pub mod Running

@@ -1,0 +1,213 @@
+// The steps of a script. A field that is used and out of range ends the script, and so does a read or a request that is not allowed.
+ghost use mathlib.Core.Path.{_≡_};
+ghost use mathlib.Core.List.{List};
+ghost use Prim.Native.Nat.{ℕ, _<_, _≤_};
+ghost use lib.ListN.{length, getD};
+ghost use Rattle.labels.specs.Addresses.{hosts};
+ghost use Rattle.machine.specs.Choice.{branch};
+ghost use Rattle.machine.specs.Policy.{hostKeys, connections, cookieIndex, mayWrite};
+ghost use Rattle.machine.specs.Session.{stateWords, setCookie};
+ghost use Rattle.machine.specs.Scripts.{scriptBytes, scriptSteps, constant, add, readCookie, writeCookie, sendRequest, skipIfZero, step, stepAt, goesOn};
+ghost use Rattle.policy.specs.Given.{WellFormed, Url};
+ghost use Rattle.session.specs.Output.{output};
+ghost use Rattle.scripts.specs.Reached.{reached, after};
+use super::position::Position;
+use super::position::REGISTERS;
+use policy::is_url;
+use policy::may_read;
+use policy::may_send;
+use policy::may_write;
+use policy::url_host;
+use policy::words::CONNECTIONS;
+use policy::words::HOST_KEYS;
+use session::cookies::is_present;
+use session::cookies::set_cookie;
+use session::pending::Pending;
+use session::pending::SCRIPT;
+use session::pending::SCRIPTS;
+use session::requests::send;
+use session::words::cookie_value;
+use std::num::wrapping_add_u32;
+
+// Step 1.
+fn constant(position: Position, register: usize, value: u32) -> Position
+    requires { ⌜ position .place < scriptSteps ⌝ }
+    ensures { λ r. ⌜ ((p s : List ℕ) (n page : ℕ) → goesOn (r .place) (r .registers) s ≡ step p n page (constant register value) (position .place) (position .registers) s) × (r .written ≡ position .written) ⌝ }
+{
+    if register < REGISTERS {
+        return position.with_register(register, value);
+    }
+    position.ended()
+}
+
+// Step 2: the sum wraps.
+fn add(position: Position, register: usize, left: usize, right: usize) -> Position
+    requires { ⌜ position .place < scriptSteps ⌝ }
+    ensures { λ r. ⌜ ((p s : List ℕ) (n page : ℕ) → goesOn (r .place) (r .registers) s ≡ step p n page (add register left right) (position .place) (position .registers) s) × (r .written ≡ position .written) ⌝ }
+{
+    if (register < REGISTERS) & ((left < REGISTERS) & (right < REGISTERS)) {
+        let sum = wrapping_add_u32(position.register(left), position.register(right));
+        return position.with_register(register, sum);
+    }
+    position.ended()
+}
+
+// Step 6.
+fn skip_if_zero(position: Position, register: usize, count: usize) -> Position
+    requires { ⌜ (position .place < scriptSteps) × (count < 256) ⌝ }
+    ensures { λ r. ⌜ ((p s : List ℕ) (n page : ℕ) → goesOn (r .place) (r .registers) s ≡ step p n page (skipIfZero register count) (position .place) (position .registers) s) × (r .written ≡ position .written) ⌝ }
+{
+    if REGISTERS <= register {
+        return position.ended();
+    }
+    if position.register(register) == 0 {
+        return position.after(count);
+    }
+    position.after(0)
+}
+
+// Step 3: a cookie of the page's host.
+fn read_cookie(
+    policy: &[u32],
+    state: &[u32],
+    connection: usize,
+    page: usize,
+    position: Position,
+    register: usize,
+    key: usize,
+) -> Position
+    requires { ⌜ WellFormed (now policy) × (length (now state) ≡ stateWords) × (connection < connections) × Url (now policy) page × (position .place < scriptSteps) ⌝ }
+    ensures { λ r. ⌜ (goesOn (r .place) (r .registers) (now (state .entry)) ≡ step (now (policy .entry)) connection page (readCookie register key) (position .place) (position .registers) (now (state .entry))) × (r .written ≡ position .written) ⌝ }
+{
+    if HOST_KEYS <= key {
+        return position.ended();
+    }
+    let host = url_host(policy, page);
+    if (register < REGISTERS)
+        & (may_read(policy, connection, host, key) & is_present(state, host, key))
+    {
+        return position.with_register(register, cookie_value(state, host, key));
+    }
+    position.ended()
+}
+
+// A write that is not allowed is passed over.
+fn set_if_allowed(
+    policy: &[u32],
+    state: &mut [u32],
+    connection: usize,
+    host: usize,
+    key: usize,
+    value: u32,
+)
+    requires { ⌜ WellFormed (now policy) × (length (now state) ≡ stateWords) × (connection < connections) × (host < hosts) × (key < hostKeys) ⌝ }
+    ensures { λ _. ⌜ now (state .exit) ≡ branch (mayWrite (now (policy .entry)) connection (cookieIndex host key)) (setCookie host key value (now (state .entry))) (now (state .entry)) ⌝ }
+{
+    if may_write(policy, connection, host, key) {
+        set_cookie(state, host, key, value);
+    }
+}
+
+// Step 4: a cookie of the page's host.
+fn write_cookie(
+    policy: &[u32],
+    state: &mut [u32],
+    connection: usize,
+    page: usize,
+    position: Position,
+    key: usize,
+    register: usize,
+) -> Position
+    requires { ⌜ WellFormed (now policy) × (length (now state) ≡ stateWords) × (connection < connections) × Url (now policy) page × (position .place < scriptSteps) ⌝ }
+    ensures { λ r. ⌜ (goesOn (r .place) (r .registers) (now (state .exit)) ≡ step (now (policy .entry)) connection page (writeCookie key register) (position .place) (position .registers) (now (state .entry))) × (r .written ≡ position .written) ⌝ }
+{
+    if HOST_KEYS <= key {
+        return position.ended();
+    }
+    if REGISTERS <= register {
+        return position.ended();
+    }
+    let host = url_host(policy, page);
+    set_if_allowed(
+        policy,
+        state,
+        connection,
+        host,
+        key,
+        position.register(register),
+    );
+    position.after(0)
+}
+
+// Step 5: a request of a URL on the connection `via`.
+fn send_request(
+    policy: &[u32],
+    state: &mut [u32],
+    connection: usize,
+    page: usize,
+    mut position: Position,
+    url: usize,
+    via: usize,
+    handler: usize,
+    out: &mut [u8],
+) -> Position
+    requires { ⌜ WellFormed (now policy) × (length (now state) ≡ stateWords) × (connection < connections) × Url (now policy) page × (position .place < scriptSteps) × (position .written ≤ length (now out)) ⌝ }
+    ensures { λ r. ⌜ (reached r (now (state .exit)) (now (out .exit)) ≡ after (step (now (policy .entry)) connection page (sendRequest url via handler) (position .place) (position .registers) (now (state .entry))) (output (position .written) (now (out .entry)))) × (r .written ≤ length (now (out .entry))) ⌝ }
+{
+    if !is_url(policy, url) {
+        return position.ended();
+    }
+    if CONNECTIONS <= via {
+        return position.ended();
+    }
+    if SCRIPTS <= handler {
+        return position.ended();
+    }
+    if !may_send(policy, connection, url, via) {
+        return position.ended();
+    }
+    let pending = Pending {
+        kind: SCRIPT,
+        origin: page,
+        handler,
+        url,
+    };
+    position.written = send(policy, state, via, pending, out, position.written);
+    position.after(0)
+}
+
+fn byte(code: &[u8], at: usize) -> usize
+    requires { ⌜ at < length (now code) ⌝ }
+    ensures { λ r. ⌜ (r ≡ getD (now (code .entry)) at 0) × (r < 256) ⌝ }
+{
+    code[at] as usize
+}
+
+// One step, at the place where the run stands.
+pub fn step(
+    policy: &[u32],
+    state: &mut [u32],
+    code: &[u8],
+    connection: usize,
+    page: usize,
+    position: Position,
+    out: &mut [u8],
+) -> Position
+    requires { ⌜ WellFormed (now policy) × (length (now state) ≡ stateWords) × (length (now code) ≡ scriptBytes) × (connection < connections) × Url (now policy) page × (position .place < scriptSteps) × (position .written ≤ length (now out)) ⌝ }
+    ensures { λ r. ⌜ (reached r (now (state .exit)) (now (out .exit)) ≡ after (step (now (policy .entry)) connection page (stepAt (now (code .entry)) (position .place)) (position .place) (position .registers) (now (state .entry))) (output (position .written) (now (out .entry)))) × (r .written ≤ length (now (out .entry))) ⌝ }
+{
+    let at = 4 * position.place;
+    let op = byte(code, at);
+    let a = byte(code, at + 1);
+    let b = byte(code, at + 2);
+    let c = byte(code, at + 3);
+    match op {
+        1 => constant(position, a, (256 * b + c) as u32),
+        2 => add(position, a, b, c),
+        3 => read_cookie(policy, state, connection, page, position, a, b),
+        4 => write_cookie(policy, state, connection, page, position, a, b),
+        5 => send_request(policy, state, connection, page, position, a, b, c, out),
+        6 => skip_if_zero(position, a, b),
+        _ => position.ended(),
+    }
+}
