@@ -1,0 +1,3 @@
+pub mod Awaiting
+pub mod Feeding
+pub mod Reacting

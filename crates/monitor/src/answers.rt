@@ -1,0 +1,36 @@
+// What is answered to a record, within the monitor.
+ghost use mathlib.Core.Path.{_≡_};
+
+pub const ACCEPTED: u32 = 0;
+
+pub const OUTPUT_SHORT: u32 = 1;
+
+pub const POLICY_BAD: u32 = 2;
+
+pub const SCRIPTS_BAD: u32 = 3;
+
+pub const STATE_UNSOUND: u32 = 4;
+
+pub const NAME_UNKNOWN: u32 = 6;
+
+pub const NOT_AWAITED: u32 = 7;
+
+pub const READERS_FORBID: u32 = 8;
+
+pub const WRITERS_FORBID: u32 = 9;
+
+pub struct Done {
+    pub number: u32,
+    pub bytes: usize,
+    pub steps: u32,
+}
+
+pub fn refused(number: u32) -> Done
+    ensures { λ r. ⌜ (r .number ≡ number) × (r .bytes ≡ 0) × (r .steps ≡ 0) ⌝ }
+{
+    Done {
+        number,
+        bytes: 0,
+        steps: 0,
+    }
+}

@@ -1,0 +1,111 @@
+// The refusals 1 to 5, in their order, and then what the record's kind asks and does.
+ghost use mathlib.Core.Path.{_≡_};
+ghost use lib.Dec.{T};
+ghost use lib.ListN.{length};
+ghost use Rattle.machine.specs.Session.{stateWords, sound};
+ghost use Rattle.machine.specs.Scripts.{tableBytes};
+ghost use Rattle.machine.specs.Machine.{eventOf, feed};
+ghost use Rattle.policy.specs.Given.{WellFormed};
+ghost use Rattle.monitor.specs.Answers.{fed, reaction};
+ghost use Rattle.monitor.specs.Kinds.{kindOf};
+use super::answers::ACCEPTED;
+use super::answers::Done;
+use super::answers::OUTPUT_SHORT;
+use super::answers::POLICY_BAD;
+use super::answers::SCRIPTS_BAD;
+use super::answers::STATE_UNSOUND;
+use super::answers::refused;
+use super::events::Delivery;
+use super::events::document_response;
+use super::events::load;
+use super::events::redirect;
+use super::events::script_response;
+use policy::check::well_formed;
+use records::Direction;
+use records::Record;
+use records::map_bytes::DOCUMENT_RESPONSE;
+use records::map_bytes::LOAD;
+use records::map_bytes::SCRIPT_RESPONSE;
+use records::map_bytes::WITH_COOKIES;
+use scripts::TABLE_BYTES;
+use session::soundness::sound;
+
+// Room for as many requests as a script can send, each as long as can be: 32 of 37 bytes.
+pub const OUTPUT_ROOM: usize = 1184;
+
+// What kind of event a record tells of.
+pub enum EventKind {
+    Load,
+    DocumentResponse,
+    ScriptResponse,
+    Redirect,
+}
+
+// By the map byte, without its bit for cookies.
+fn kind_of(map: u8) -> EventKind
+    ensures { λ r. ⌜ r ≡ kindOf map ⌝ }
+{
+    let plain = map - WITH_COOKIES * (map / WITH_COOKIES % 2);
+    if plain == LOAD {
+        return EventKind::Load;
+    }
+    if plain == DOCUMENT_RESPONSE {
+        return EventKind::DocumentResponse;
+    }
+    if plain == SCRIPT_RESPONSE {
+        return EventKind::ScriptResponse;
+    }
+    EventKind::Redirect
+}
+
+// A record that can be read.
+fn react(policy: &[u32], scripts: &[u8], state: &mut [u32], fields: Record, out: &mut [u8]) -> Done
+    requires { ⌜ WellFormed (now policy) × (length (now scripts) ≡ tableBytes) × (length (now state) ≡ stateWords) × T (sound (now policy) (now state)) ⌝ }
+    ensures { λ r. ⌜ fed r (now (state .exit)) (now (out .exit)) ≡ reaction (now (policy .entry)) (now (scripts .entry)) (now (state .entry)) (eventOf fields) (now (out .entry)) ⌝ }
+{
+    let url = fields.url as usize;
+    let connection = fields.connection as usize;
+    let cookies = fields.cookies;
+    let from = Delivery {
+        url,
+        connection,
+        keys: fields.keys,
+        cookies,
+    };
+    let script = fields.script as usize;
+    let target = fields.target as usize;
+    let kind = kind_of(fields.map);
+    match kind {
+        EventKind::Load => load(policy, state, url, connection, out),
+        EventKind::DocumentResponse => {
+            document_response(policy, scripts, state, from, script, out)
+        }
+        EventKind::ScriptResponse => {
+            script_response(policy, scripts, state, from, fields.value, out)
+        }
+        EventKind::Redirect => redirect(policy, state, from, target, out),
+    }
+}
+
+pub fn feed(policy: &[u32], scripts: &[u8], state: &mut [u32], bytes: &[u8], out: &mut [u8]) -> Done
+    ensures { λ r. ⌜ fed r (now (state .exit)) (now (out .exit)) ≡ feed (now (policy .entry)) (now (scripts .entry)) (now (state .entry)) (now (bytes .entry)) (now (out .entry)) ⌝ }
+{
+    if out.len() < OUTPUT_ROOM {
+        return refused(OUTPUT_SHORT);
+    }
+    if !well_formed(policy) {
+        return refused(POLICY_BAD);
+    }
+    if scripts.len() != TABLE_BYTES {
+        return refused(SCRIPTS_BAD);
+    }
+    if !sound(policy, state) {
+        return refused(STATE_UNSOUND);
+    }
+    let read = records::decode(Direction::Input, bytes);
+    if read.number != ACCEPTED {
+        return refused(read.number);
+    }
+    let fields = read.fields;
+    react(policy, scripts, state, fields, out)
+}

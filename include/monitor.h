@@ -1,0 +1,133 @@
+/* The session monitor: it stands between a web page and the network, is fed one record at a time, keeps cookies and pending
+ * connections in a state that the caller lends, and writes the requests that may go out.
+ * Link with libmonitor.a.
+ *
+ * The caller keeps everything: the monitor has no memory of its own, allocates nothing and never fails. A session
+ * starts from a state of zeros; each record is fed with the state as the last call left it:
+ *
+ *     uint32_t state[MONITOR_STATE_WORDS] = {0};
+ *     uint8_t out[MONITOR_OUT_BYTES];
+ *     struct monitor_answer answer = monitor_feed(policy, MONITOR_POLICY_WORDS, scripts, MONITOR_SCRIPT_BYTES,
+ *                                                 state, MONITOR_STATE_WORDS, record, record_bytes, out, sizeof out);
+ *     if (answer.number == MONITOR_ACCEPTED) {
+ *         send_requests(out, answer.bytes);
+ *     }
+ *
+ * What the monitor promises about secrecy it promises for a session as a whole: the same policy and the same script table throughout,
+ * and a state that nobody else writes between calls.
+ *
+ * Words are in the machine's byte order. A set of endpoints is a word: bit a (0 to 31) stands for endpoint a, which is http at
+ * host a for a below 16, and https at host a - 16 from there on (see labels.h). */
+#ifndef MONITOR_H
+#define MONITOR_H
+
+#include <stddef.h>
+#include <stdint.h>
+
+#ifdef __cplusplus
+extern "C" {
+#endif
+
+/* The length of each buffer. An output may be longer; any other difference is refused. */
+enum {
+    /* words 0 to 191: 64 URLs of address (0 to 31), readers, writers; no URL: 255, 0, 0
+     * words 192 to 447: readers, writers of the cookie of host h (0 to 15) and key k (0 to 7), at 192 + 2 * (8 * h + k)
+     * words 448 to 543: 32 connections of readers, script readers, writers */
+    MONITOR_POLICY_WORDS = 544,
+    /* 16 scripts of 32 steps of 4 bytes: op, a, b, c */
+    MONITOR_SCRIPT_BYTES = 2048,
+    /* words 0 to 127: cookie values, at 8 * h + k; words 128 to 143: for each host, the keys present as bits 0 to 7
+     * words 144 to 175: connections, 0 where free, else kind << 24 | origin << 16 | handler << 8 | URL, where kind is
+     * 1 for a document (origin and handler 0) and 2 for a script's request (origin a URL, handler a script, 0 to 15) */
+    MONITOR_STATE_WORDS = 176,
+    /* room for 32 requests, the most that one record can send */
+    MONITOR_OUT_BYTES = 1184
+};
+
+/* The longest record that is not malformed, and the longest request. */
+enum {
+    MONITOR_LONGEST_RECORD = 40,
+    MONITOR_LONGEST_REQUEST = 37
+};
+
+/* The number of an answer: the first of these that applies. */
+enum monitor_number {
+    MONITOR_ACCEPTED = 0,
+    /* the output has fewer than MONITOR_OUT_BYTES bytes, however few this record needs */
+    MONITOR_OUTPUT_SHORT = 1,
+    /* the policy does not have its length, or is not well formed: a URL with an address above 31 or without its event endpoint (http at
+     * its host) among its readers, or a connection with script readers that are not among its readers */
+    MONITOR_POLICY_BAD = 2,
+    /* the script table does not have its length */
+    MONITOR_SCRIPTS_BAD = 3,
+    /* the state does not have its length, or is not sound: a value of a cookie that is not present, a key above 7, or a connection that
+     * is not as described above, names a URL that the policy does not have, or does not fit its URL (a load of it would give 8 or 9).
+     * A state of zeros is sound, and a state that is sound under a policy stays sound under it, whatever is fed. */
+    MONITOR_STATE_UNSOUND = 4,
+    /* the record is malformed: no input map, cut short, too long, or cookies with an empty key map */
+    MONITOR_MALFORMED = 5,
+    /* the record names a URL or target that the policy does not have, a connection above 31 or a script above 15 */
+    MONITOR_NAME_UNKNOWN = 6,
+    /* a response or redirect on a connection that is free or holds another URL, or a response of the other kind */
+    MONITOR_NOT_AWAITED = 7,
+    /* readers forbid it: a load's connection has readers that the URL does not have; or a redirect's connection has readers that the
+     * target does not have, or lacks the target's event endpoint */
+    MONITOR_READERS_FORBID = 8,
+    /* writers forbid it: the message endpoint (the address itself) of a load's URL or a redirect's target is not among the connection's
+     * writers; or a redirect's connection has writers that the target does not have */
+    MONITOR_WRITERS_FORBID = 9
+};
+
+struct monitor_answer {
+    /* one of enum monitor_number */
+    uint32_t number;
+    /* how many bytes of the output were written: requests, one right after another; 0 in a refusal */
+    uint32_t bytes;
+    /* how many steps of a script ran, the one that ended it included; 0 in a refusal and where no script ran */
+    uint32_t steps;
+};
+
+/* Scripts. A step is four bytes: op, a, b, c. There are four registers of 32 bits, 0 at the start. The page is the URL that a document's response
+ * came from, or the one that sent a script's request. S is the readers of scripts and J the writers of the connection of the response.
+ *     0   end
+ *     1   register a = 256 * b + c
+ *     2   register a = register b + register c, modulo 2^32
+ *     3   register a = cookie b of the page's host, if S is within its readers and its writers are within J
+ *     4   cookie a of the page's host = register b, if its readers are within S and J is within its writers; else passed over
+ *     5   request URL a on connection b with handler c, whatever is pending there, if a's event endpoint is in S, b's readers are within S and within
+ *         a's, a's message endpoint is among b's writers, and J is within b's writers and within a's
+ *     6   if register a is 0, skip the b steps that follow
+ * A script ends at step 0, at an unknown op, at a field in use that is out of range, at a read or request that is not allowed, at a read of a cookie
+ * that is not present, and past its last step.
+ *
+ * Cookies. One that a response or redirect delivers belongs to the host of the record's URL, and is stored if its readers are within the
+ * connection's and the connection's writers are within its own; else it is passed over. A request carries each cookie of its URL's host that
+ * is present and whose readers hold the URL's message endpoint. */
+
+/* Feeds one record. Policy, script table and record are read; state and output are changed only where the answer is MONITOR_ACCEPTED, and
+ * of the output only the first `bytes` bytes. A refusal changes nothing.
+ *
+ * Any contents and any lengths are allowed: whatever does not fit is refused. What is asked of the caller is memory: each pointer is
+ * not null and aligned for its type, also where the length is 0; each buffer has the length that is given (script table, record and output in
+ * bytes, policy and state in words); state and output overlap no other buffer; and nobody else writes a buffer, or reads state or
+ * output, during the call. Calls on different states may run at the same time.
+ *
+ * A record is a map byte, whose bits say which fields follow, in this order: URL (bit 0, one byte), connection (bit 1, one byte), cookies
+ * (bit 2: a key map byte, not 0, and for each key in it, lowest first, a value), script (bit 3, one byte), value (bit 4),
+ * target URL (bit 5, one byte). A value has four bytes, the most significant first. With and without cookies the maps are:
+ *     03      load: opens the connection as a document at the URL, whatever was pending on it
+ *     0b 0f   response to a document: stores cookies, frees the connection and runs the script
+ *     13 17   response to a script's request: the same, with the connection's handler at its origin and the value in register 0
+ *     23 27   redirect: stores cookies, and asks for the target on the same connection
+ * and of requests 03 07 for a document, 0b 0f for a script's request, whose script field is the handler. */
+struct monitor_answer monitor_feed(const uint32_t *policy, size_t policy_words,
+                                   const uint8_t *scripts, size_t script_bytes,
+                                   uint32_t *state, size_t state_words,
+                                   const uint8_t *record, size_t record_bytes,
+                                   uint8_t *out, size_t out_bytes);
+
+#ifdef __cplusplus
+}
+#endif
+
+#endif

@@ -1,0 +1,293 @@
+/* Links libmonitor.a: document 01's small post case by case, a script that is stopped on one connection and goes on on another, every wrong
+ * length of every buffer, and random records. Every call is checked for what it must leave alone. */
+#include <inttypes.h>
+#include <stdbool.h>
+#include <stdio.h>
+#include <stdlib.h>
+#include <string.h>
+
+#include "monitor.h"
+
+/* Each buffer has this much more than is right: room for lengths that are too long, and past the length that is lent a canary. */
+enum { SPARE = 64, LONGEST = 255 };
+
+struct buffers {
+    uint32_t policy[MONITOR_POLICY_WORDS + SPARE];
+    uint8_t scripts[MONITOR_SCRIPT_BYTES + SPARE];
+    uint32_t state[MONITOR_STATE_WORDS + SPARE];
+    uint8_t record[LONGEST + SPARE];
+    uint8_t out[MONITOR_OUT_BYTES + SPARE];
+};
+
+struct lengths {
+    size_t policy, scripts, state, out;
+};
+
+static const struct lengths RIGHT = {MONITOR_POLICY_WORDS, MONITOR_SCRIPT_BYTES, MONITOR_STATE_WORDS, MONITOR_OUT_BYTES};
+
+/* what is lent, and how it was before the call */
+static struct buffers lent, before;
+static const char *doing = "nothing yet";
+static unsigned long calls;
+
+static void fail(const char *what)
+{
+    fprintf(stderr, "monitor: %s: %s (call %lu)\n", doing, what, calls);
+    exit(EXIT_FAILURE);
+}
+
+static void check(bool holds, const char *what)
+{
+    if (!holds) {
+        fail(what);
+    }
+}
+
+/* What holds of every call, whatever is lent. */
+static void check_answer(struct monitor_answer answer, struct lengths n)
+{
+    check(memcmp(lent.policy, before.policy, sizeof lent.policy) == 0, "the policy changed");
+    check(memcmp(lent.scripts, before.scripts, sizeof lent.scripts) == 0, "the script table changed");
+    check(memcmp(lent.record, before.record, sizeof lent.record) == 0, "the record changed");
+    check(answer.number <= MONITOR_WRITERS_FORBID, "the answer is no number that there is");
+    if (answer.number != MONITOR_ACCEPTED) {
+        check(answer.bytes == 0 && answer.steps == 0, "a refusal has counts");
+        check(memcmp(lent.state, before.state, sizeof lent.state) == 0, "a refusal changed the state, or past it");
+        check(memcmp(lent.out, before.out, sizeof lent.out) == 0, "a refusal changed the output, or past it");
+        return;
+    }
+    check(n.policy == RIGHT.policy && n.scripts == RIGHT.scripts && n.state == RIGHT.state && n.out >= RIGHT.out, "a wrong length was accepted");
+    check(answer.bytes <= MONITOR_OUT_BYTES && answer.steps <= 32, "the counts are too large");
+    check(memcmp(lent.state + RIGHT.state, before.state + RIGHT.state, sizeof lent.state - RIGHT.state * sizeof *lent.state) == 0,
+          "a word past the state changed");
+    check(memcmp(lent.out + answer.bytes, before.out + answer.bytes, sizeof lent.out - answer.bytes) == 0, "a byte past the output changed");
+}
+
+static struct monitor_answer feed_with(struct lengths n, const uint8_t *record, size_t size)
+{
+    check(size <= LONGEST, "the test's own record is too long");
+    memset(lent.record, 0xc5, sizeof lent.record);
+    memcpy(lent.record, record, size);
+    memset(lent.out, 0xa7, sizeof lent.out);
+    memcpy(&before, &lent, sizeof lent);
+    calls++;
+    struct monitor_answer answer = monitor_feed(lent.policy, n.policy, lent.scripts, n.scripts, lent.state, n.state, lent.record, size, lent.out, n.out);
+    check_answer(answer, n);
+    return answer;
+}
+
+/* ---- document 01's small post */
+
+/* Sets `count` words from `at` on. */
+static void set_words(uint32_t *words, size_t at, size_t count, const uint32_t *values)
+{
+    memcpy(words + at, values, count * sizeof *values);
+}
+
+/* Policy P, a script table of zeros, the empty state; canaries past each. */
+static void small_post(void)
+{
+    static const uint32_t urls[] = {16, 0x00010001, 0x00010000, 1, 0xffffffff, 0xffffffff, 17, 0xffffffff, 0x00030000, 0, 0x00010001, 0x00010001};
+    static const uint32_t cookie[] = {0x00010000, 0x00010000};
+    static const uint32_t connections[] = {0x00010001, 0x00010001, 0x00010000, 0xffffffff, 0xffffffff, 0xffffffff,
+                                           0x00010000, 0x00010000, 0x00010000, 0x00010001, 0x00010001, 0x00010001};
+    memset(&lent, 0xb9, sizeof lent);
+    memset(lent.policy, 0, MONITOR_POLICY_WORDS * sizeof *lent.policy);
+    memset(lent.scripts, 0, MONITOR_SCRIPT_BYTES);
+    memset(lent.state, 0, MONITOR_STATE_WORDS * sizeof *lent.state);
+    for (size_t url = 0; url < 64; url++) {
+        lent.policy[3 * url] = 255;
+    }
+    set_words(lent.policy, 0, 12, urls);
+    set_words(lent.policy, 192, 2, cookie);
+    set_words(lent.policy, 448, 12, connections);
+}
+
+/* Feeds a record, and compares the whole answer and the output. */
+static void gives(const char *name, const uint8_t *record, size_t size, struct monitor_answer want, const uint8_t *sent)
+{
+    doing = name;
+    struct monitor_answer answer = feed_with(RIGHT, record, size);
+    if (answer.number != want.number || answer.bytes != want.bytes || answer.steps != want.steps) {
+        fprintf(stderr, "monitor: %s: answered %" PRIu32 " %" PRIu32 " %" PRIu32 ", expected %" PRIu32 " %" PRIu32 " %" PRIu32 "\n", name,
+                answer.number, answer.bytes, answer.steps, want.number, want.bytes, want.steps);
+        exit(EXIT_FAILURE);
+    }
+    check(memcmp(lent.out, sent, want.bytes) == 0, "other bytes were sent");
+}
+
+#define BYTES(...) (const uint8_t[]){__VA_ARGS__}, sizeof((const uint8_t[]){__VA_ARGS__})
+#define ACCEPTED(bytes, steps) (struct monitor_answer){MONITOR_ACCEPTED, bytes, steps}
+#define REFUSED(number) (struct monitor_answer){number, 0, 0}
+static const uint8_t NOTHING[1];
+
+/* The words of the state that are not 0. */
+static void check_state(uint32_t value, uint32_t present, uint32_t connection_0)
+{
+    uint32_t want[MONITOR_STATE_WORDS] = {0};
+    want[0] = value;
+    want[128] = present;
+    want[144] = connection_0;
+    check(memcmp(lent.state, want, sizeof want) == 0, "the state after is another");
+}
+
+static void load_0(const char *name)
+{
+    small_post();
+    gives(name, BYTES(0x03, 0, 0), ACCEPTED(3, 0), (const uint8_t[]){0x03, 0, 0});
+    check_state(0, 0, 1u << 24);
+}
+
+static void store_7(const char *name)
+{
+    load_0(name);
+    gives(name, BYTES(0x0f, 0, 0, 0x01, 0, 0, 0, 7, 0), ACCEPTED(0, 1), NOTHING);
+    check_state(7, 1, 0);
+}
+
+static void loads(void)
+{
+    load_0("case a");
+    small_post();
+    gives("case b", BYTES(0x03, 0, 1), REFUSED(MONITOR_READERS_FORBID), NOTHING);
+    gives("case c", BYTES(0x03, 3, 0), REFUSED(MONITOR_WRITERS_FORBID), NOTHING);
+    gives("case d, URL 4", BYTES(0x03, 4, 0), REFUSED(MONITOR_NAME_UNKNOWN), NOTHING);
+    gives("case d, URL 64", BYTES(0x03, 64, 0), REFUSED(MONITOR_NAME_UNKNOWN), NOTHING);
+    gives("case d, connection 32", BYTES(0x03, 0, 32), REFUSED(MONITOR_NAME_UNKNOWN), NOTHING);
+    check_state(0, 0, 0);
+}
+
+static void cookies(void)
+{
+    store_7("case e");
+    gives("case f", BYTES(0x03, 0, 0), ACCEPTED(8, 0), (const uint8_t[]){0x07, 0, 0, 0x01, 0, 0, 0, 7});
+    check_state(7, 1, 1u << 24);
+    store_7("case g");
+    gives("case g", BYTES(0x03, 3, 3), ACCEPTED(3, 0), (const uint8_t[]){0x03, 3, 3});
+    load_0("case h");
+    gives("case h", BYTES(0x27, 0, 0, 0x01, 0, 0, 0, 7, 2), REFUSED(MONITOR_READERS_FORBID), NOTHING);
+    check_state(0, 0, 1u << 24);
+    small_post();
+    gives("case i", BYTES(0x03, 1, 1), ACCEPTED(3, 0), (const uint8_t[]){0x03, 1, 1});
+    gives("case i", BYTES(0x23, 1, 1, 2), REFUSED(MONITOR_WRITERS_FORBID), NOTHING);
+}
+
+static void malformed(void)
+{
+    small_post();
+    gives("case j, empty", NOTHING, 0, REFUSED(MONITOR_MALFORMED), NOTHING);
+    gives("case j, map 07", BYTES(0x07, 0, 0, 0x01, 0, 0, 0, 7), REFUSED(MONITOR_MALFORMED), NOTHING);
+    gives("case j, map 07 alone", BYTES(0x07), REFUSED(MONITOR_MALFORMED), NOTHING);
+    gives("case j, key map 00", BYTES(0x0f, 0, 0, 0, 0), REFUSED(MONITOR_MALFORMED), NOTHING);
+}
+
+/* After e and a second load, a script that reads key 0 is stopped in connection 0 and goes on in connection 2. */
+static void scripts(void)
+{
+    static const uint8_t reads_key_0[] = {3, 1, 0, 0, 4, 0, 1, 0};
+    for (uint8_t connection = 0; connection <= 2; connection += 2) {
+        store_7("the script's cookie");
+        memcpy(lent.scripts + 128, reads_key_0, sizeof reads_key_0);
+        gives("the script's page", BYTES(0x03, 0, connection), ACCEPTED(8, 0), (const uint8_t[]){0x07, 0, connection, 0x01, 0, 0, 0, 7});
+        gives(connection == 0 ? "a script that is stopped" : "a script that goes on", BYTES(0x0b, 0, connection, 1),
+              ACCEPTED(0, connection == 0 ? 1 : 3), NOTHING);
+        check_state(7, 1, 0);
+    }
+}
+
+/* ---- wrong lengths */
+
+/* Every length of one buffer from none to SPARE more than right, of a call that is accepted at the right one. */
+static void lengths_of(const char *name, size_t right, size_t *length, struct lengths *n, uint32_t number, bool longer)
+{
+    doing = name;
+    for (size_t k = 0; k <= right + SPARE; k++) {
+        store_7(name);
+        *length = k;
+        struct monitor_answer answer = feed_with(*n, BYTES(0x03, 0, 0));
+        if (k == right || (longer && k > right)) {
+            check(answer.number == MONITOR_ACCEPTED && answer.bytes == 8, "a right length was refused");
+        } else {
+            check(answer.number == number, "a wrong length got another number");
+        }
+    }
+    *length = right;
+}
+
+static void wrong_lengths(void)
+{
+    struct lengths n = RIGHT;
+    lengths_of("length of the policy", RIGHT.policy, &n.policy, &n, MONITOR_POLICY_BAD, false);
+    lengths_of("length of the script table", RIGHT.scripts, &n.scripts, &n, MONITOR_SCRIPTS_BAD, false);
+    lengths_of("length of the state", RIGHT.state, &n.state, &n, MONITOR_STATE_UNSOUND, false);
+    lengths_of("length of the output", RIGHT.out, &n.out, &n, MONITOR_OUTPUT_SHORT, true);
+    /* the first that applies */
+    static const uint32_t order[] = {MONITOR_OUTPUT_SHORT, MONITOR_POLICY_BAD, MONITOR_SCRIPTS_BAD, MONITOR_STATE_UNSOUND, MONITOR_MALFORMED};
+    struct lengths wrong = {RIGHT.policy + 1, RIGHT.scripts - 1, RIGHT.state + 1, RIGHT.out - 1};
+    size_t *const parts[] = {&wrong.out, &wrong.policy, &wrong.scripts, &wrong.state};
+    const size_t rights[] = {RIGHT.out, RIGHT.policy, RIGHT.scripts, RIGHT.state};
+    doing = "several wrong lengths";
+    for (size_t k = 0; k < 5; k++) {
+        check(feed_with(wrong, NOTHING, 0).number == order[k], "the number is not the first that applies");
+        if (k < 4) {
+            *parts[k] = rights[k];
+        }
+    }
+}
+
+/* ---- random records */
+
+/* xorshift32: the same records in every run */
+static uint32_t next_random(void)
+{
+    static uint32_t x = 2463534242u;
+    x ^= x << 13;
+    x ^= x >> 17;
+    x ^= x << 5;
+    return x;
+}
+
+/* Sessions of policy P with random scripts. Records are mostly near good ones, so that many are accepted. */
+static void random_records(void)
+{
+    static const uint8_t maps[] = {0x03, 0x03, 0x0b, 0x0f, 0x13, 0x17, 0x23, 0x27};
+    static const uint8_t sizes[] = {3, 3, 4, 9, 7, 12, 4, 9};
+    unsigned long accepted = 0;
+    doing = "random records";
+    for (uint32_t k = 0; k < 20000; k++) {
+        if (k % 50 == 0) {
+            small_post();
+            for (size_t i = 0; i < MONITOR_SCRIPT_BYTES; i++) {
+                lent.scripts[i] = (uint8_t)(next_random() >> 8 & (i % 4 == 0 ? 7u : 3u));
+            }
+        }
+        uint8_t record[LONGEST];
+        for (size_t i = 0; i < sizeof record; i++) {
+            record[i] = (uint8_t)(next_random() >> 8 & 3u);
+        }
+        uint32_t kind = next_random() >> 8 & 7u;
+        record[0] = maps[kind];
+        if ((record[0] & 0x04u) != 0) {
+            record[3] = 1;
+        }
+        size_t size = sizes[kind];
+        if (k % 16 == 0) {
+            size = next_random() >> 8 & 0xffu;
+            record[next_random() >> 8 & 7u] = (uint8_t)(next_random() >> 8 & 0xffu);
+        }
+        accepted += feed_with(RIGHT, record, size).number == MONITOR_ACCEPTED;
+    }
+    check(accepted > 1000, "next to nothing was accepted");
+}
+
+int main(void)
+{
+    loads();
+    cookies();
+    malformed();
+    scripts();
+    wrong_lengths();
+    random_records();
+    printf("monitor: cases a to j, the script in two connections, every wrong length agree, and random records touch nothing else: %lu calls\n", calls);
+    return 0;
+}
