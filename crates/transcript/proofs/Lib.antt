@@ -1,0 +1,6 @@
+pub mod Decimals
+pub mod Writing
+pub mod Requests
+pub mod Printing
+pub mod Words
+pub mod Inputs

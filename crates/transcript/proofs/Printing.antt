@@ -1,0 +1,83 @@
+-- The loop over the requests: the lines that are left to write make the whole, and there is room for them.
+use Prim.Native.Nat.{ℕ, _+_, _-_, _*_, _<_, _≤_}
+use native.Mathlib.Omega.{arith}
+use mathlib.Core.Path.{_≡_, refl, sym, ap, _∙_}
+use mathlib.Core.List.{List, [], _∷_, _++_}
+use lib.ListN.{length, take, drop, length-append, length-drop}
+use lib.Seq.{drop-drop, take-all, sets, length-sets}
+use Rattle.records.specs.declared.Decoded.{Decoded}
+use Rattle.records.specs.Codec.{accepted, firstRecord}
+use Rattle.records.proofs.Cookies.{sets-append}
+use Rattle.transcript.specs.Text.{space, newline, decimal, hex, Wrote}
+use Rattle.transcript.specs.Lines.{requestLine, sentLines}
+use Rattle.transcript.proofs.Decimals.{byte-room}
+use Rattle.transcript.proofs.Requests.{number, firstOf, lineOf, request-long, first-is, first-within, lines-more}
+
+-- what the loop reads: the bytes from a place on, and as many of those as the first record has
+pub rest-is : (sent : List ℕ) (from : ℕ) → take (length sent - from) (drop from sent) ≡ drop from sent
+rest-is sent from = take-all (length sent - from) (drop from sent) (omega (arith, length-drop from sent))
+
+pub first-taken : (sent : List ℕ) (from n : ℕ) → n ≡ length (firstRecord (drop from sent)) → take (from + n - from) (drop from sent) ≡ firstRecord (drop from sent)
+first-taken sent from n e =
+    let count : from + n - from ≡ length (firstRecord (drop from sent)) = omega arith in
+    rw count (first-is (drop from sent))
+
+line-short : (url connection keys : ℕ) → url < 256 → connection < 256 → length (requestLine url connection keys) ≤ 13
+line-short url connection keys u c =
+    let rest = (decimal connection ++ (space ∷ [])) ++ (hex keys ++ (newline ∷ [])) in
+    omega (
+      arith,
+      byte-room url space u,
+      byte-room connection space c,
+      length-append (decimal url ++ (space ∷ [])) rest,
+      length-append (decimal connection ++ (space ∷ [])) (hex keys ++ (newline ∷ [])),
+    )
+
+-- `from` bytes are read and their lines end at `at`: the lines that are left to write make the whole
+pub record Printing (before : List ℕ) (start : ℕ) (sent text : List ℕ) (at from : ℕ) : Type 0 where
+  pub below : from ≤ length sent
+  pub long : length text ≡ length before
+  pub room : at + 5 * (length sent - from) ≤ length before
+  pub place : at + length (sentLines (drop from sent)) ≡ start + length (sentLines sent)
+  pub remains : sets text at (sentLines (drop from sent)) ≡ sets before start (sentLines sent)
+
+module _ (before : List ℕ) (start : ℕ) (sent : List ℕ) where
+  pub printing-begins : start + 5 * length sent ≤ length before → Printing before start sent before start 0
+  printing-begins h = record { below = omega arith; long = refl; room = omega arith; place = refl; remains = refl }
+
+  module _ (text : List ℕ) (at from : ℕ) (p : Printing before start sent text at from) where
+    pub printing-ends : sentLines (drop from sent) ≡ [] → Wrote before start (sentLines sent) text at
+    printing-ends e = record {
+      place = omega (arith, p .place, ap length e);
+      within = omega (arith, p .room);
+      written = sym (ap (sets text at) e) ∙ p .remains;
+    }
+
+    -- the first of the bytes that are left is an accepted request
+    module _ (d : Decoded) (read : d ≡ firstOf (drop from sent)) (ok : d .number ≡ accepted) where
+      first-ok : firstOf (drop from sent) .number ≡ accepted
+      first-ok = sym (ap number read) ∙ ok
+
+      pub request-bytes : (3 ≤ length (firstRecord (drop from sent))) × (from + length (firstRecord (drop from sent)) ≤ length sent)
+      request-bytes =
+          let long = request-long (firstRecord (drop from sent)) first-ok in
+          (long, omega (arith, long, first-within (drop from sent), length-drop from sent))
+
+      -- it has at least 3 bytes, so there is room for the 13 of its line
+      pub request-room : at + 13 ≤ length text
+      request-room = omega (arith, p .room, p .long, request-bytes .0, request-bytes .1)
+
+      pub printing-goes-on : (after : List ℕ) (next to : ℕ) → to ≡ from + length (firstRecord (drop from sent)) → d .fields .url < 256 → d .fields .connection < 256
+          → Wrote text at (lineOf d) after next → Printing before start sent after next to
+      printing-goes-on after next to e u c w =
+          let rest = drop from sent in
+          let line = lineOf d in
+          let left : drop to sent ≡ drop (length (firstRecord rest)) rest = ap (λ (i : ℕ). drop i sent) e ∙ sym (drop-drop (length (firstRecord rest)) from sent) in
+          let more : sentLines rest ≡ line ++ sentLines (drop to sent) = rw (left, read) (lines-more rest first-ok) in
+          record {
+            below = omega (arith, request-bytes .1);
+            long = ap length (w .written) ∙ length-sets text at line ∙ p .long;
+            room = omega (arith, p .room, w .place, line-short (d .fields .url) (d .fields .connection) (d .fields .keys) u c, request-bytes .0, request-bytes .1);
+            place = omega (arith, p .place, w .place, ap length more, length-append line (sentLines (drop to sent)));
+            remains = rw (w .written, w .place) (sym (sets-append line (sentLines (drop to sent)) text at) ∙ ap (sets text at) (sym more) ∙ p .remains);
+          }

@@ -1,0 +1,42 @@
+-- Pieces written one after another are written as one, and what is written from place 0 on is at the front.
+use Prim.Native.Nat.{ℕ, suc, _+_, _<_, _≤_}
+use native.Mathlib.Nat.{zero-add}
+use native.Mathlib.Numerals.{add-one}
+use native.Mathlib.Omega.{arith}
+use mathlib.Core.Path.{_≡_, refl, ap, _∙_}
+use mathlib.Core.List.{List, [], _∷_, _++_}
+use lib.ListN.{length, getD, drop, set, length-append}
+use lib.Seq.{drop-cons, drop-length, sets, length-sets, sets-eq}
+use Rattle.records.proofs.Cookies.{sets-append}
+use Rattle.transcript.specs.Text.{AtFront, Wrote}
+
+pub wrote-then : {l m n x y : List ℕ} {i j k : ℕ} → Wrote l i x m j → Wrote m j y n k → Wrote l i (x ++ y) n k
+wrote-then {l} {m} {n} {x} {y} {i} f g = record {
+  place = omega (arith, f .place, g .place, length-append x y);
+  within = omega (arith, g .within, ap length (f .written), length-sets l i x);
+  written = rw (sets-append x y l i, ← f .place, ← f .written) (g .written);
+}
+
+pub wrote-byte : {l m x : List ℕ} {i j : ℕ} → Wrote l i x m j → (v : ℕ) → j < length m → Wrote l i (x ++ (v ∷ [])) (set m j v) (j + 1)
+wrote-byte f v h = wrote-then f (record { place = refl; within = omega arith; written = refl })
+
+pub at-front : {l m x : List ℕ} {k : ℕ} → Wrote l 0 x m k → AtFront x l m k
+at-front {l} {m} {x} f = (
+  f .place ∙ zero-add (length x),
+  f .written ∙ sets-eq x l 0 (omega (arith, f .place, f .within)) ∙ ap (λ (i : ℕ). x ++ drop i l) (zero-add (length x)),
+)
+
+-- what is at the front of a text is within it
+pub front-within : (x l m : List ℕ) (k : ℕ) → AtFront x l m k → k ≤ length m
+front-within x l m k f = omega (arith, f .0, ap length (f .1), length-append x (drop (length x) l))
+
+-- ---- a copy: what is left to write from an index on makes the whole
+
+module _ (text bytes : List ℕ) (at i : ℕ) where
+  pub copy-goes-on : i < length bytes → sets text (at + i) (drop i bytes) ≡ sets (set text (at + i) (getD bytes i 0)) (at + (i + 1)) (drop (i + 1) bytes)
+  copy-goes-on l =
+      let next : at + (i + 1) ≡ suc (at + i) = omega arith in
+      rw (drop-cons bytes i 0 l, next, add-one i)
+
+  pub copy-ends : i ≡ length bytes → sets text (at + i) (drop i bytes) ≡ text
+  copy-ends e = rw (e, drop-length bytes)

@@ -1,0 +1,16 @@
+-- `input::word` meets its contract.
+use denote.Ref.{now}
+use native.Mathlib.Omega.{arith}
+use Rattle.records.proofs.Slices.{number-four}
+use borrow.Author.Needs.{needs}
+use Rattle.transcript.proofs.input.word.Statement.{statement}
+use Rattle.transcript.proofs.input.word.Tie as tie
+
+returns : tie.Need-returns
+returns c =
+    let s = c .before .before .before .before .before .before .before .before .before in
+    omega (arith, number-four (now (s .args .bytes)) (s .args .at) (s .pre))
+
+pub word-spec : {M : Type 1} → statement M
+word-spec =
+    tie.close (tie.spec (λ c. search needs) (λ c κs. search needs) (λ c. search needs) (λ c. search needs) (λ c. search needs) (λ c κs. search needs) (λ c. search needs) (λ c. search needs) (λ c. search needs) (λ c. search needs) (λ c κs. search needs) (λ c. search needs) (λ c. search needs) (λ c. search needs) (λ c. search needs) (λ c κs. search needs) (λ c. search needs) returns)

@@ -1,0 +1,23 @@
+-- `text::write_hex` meets its contract.
+use mathlib.Core.Path.{refl}
+use native.Mathlib.Numerals.{add-one, add-two}
+use native.Mathlib.Omega.{arith}
+use lib.ListN.{length-set}
+use borrow.Author.Needs.{needs}
+use Rattle.transcript.proofs.text.write_hex.Statement.{statement}
+use Rattle.transcript.proofs.text.write_hex.Tie as tie
+
+slice-write-text-2 : tie.Need-slice-write-text-2
+slice-write-text-2 c = simp length-set (omega arith)
+
+slice-write-text-3 : tie.Need-slice-write-text-3
+slice-write-text-3 c = simp length-set (omega arith)
+
+returns : tie.Need-returns
+returns c =
+    let at = c .before .before .before .args .at in
+    rw (← c .hex-digit2 .ensures, ← c .before .hex-digit .ensures, add-one at, add-two at) (record { place = refl; within = search needs; written = refl })
+
+pub write-hex-spec : {M : Type 1} → statement M
+write-hex-spec =
+    tie.close (tie.spec (λ c κs. search needs) (λ c. search needs) (λ c κs. search needs) (λ c. search needs) slice-write-text-2 (λ c. search needs) slice-write-text-3 (λ c. search needs) (λ c. search needs) returns)

@@ -1,0 +1,3 @@
+pub mod Text
+pub mod Input
+pub mod Lines

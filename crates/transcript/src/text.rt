@@ -1,0 +1,57 @@
+// Pieces of a line. Each is written from a place of a text on, and the place after it is answered.
+ghost use Prim.Native.Nat.{_+_, _<_, _≤_};
+ghost use mathlib.Core.Path.{_≡_};
+ghost use mathlib.Core.List.{[], _∷_, _++_};
+ghost use lib.ListN.{length};
+ghost use Rattle.transcript.specs.Text.{decimal, hexDigit, hex, Wrote};
+
+pub fn write_bytes(text: &mut [u8], at: usize, bytes: &[u8]) -> usize
+    requires { ⌜ at + length (now bytes) ≤ length (now text) ⌝ }
+    ensures { λ r. ⌜ Wrote (now (text .entry)) at (now (bytes .entry)) (now (text .exit)) r ⌝ }
+{
+    for i in 0..bytes.len() {
+        text[at + i] = bytes[i];
+    }
+    at + bytes.len()
+}
+
+fn write_decimal(text: &mut [u8], at: usize, n: u32) -> usize
+    requires { ⌜ at + length (decimal n) ≤ length (now text) ⌝ }
+    ensures { λ r. ⌜ Wrote (now (text .entry)) at (decimal n) (now (text .exit)) r ⌝ }
+{
+    if n < 10 {
+        text[at] = b'0' + n as u8;
+        return at + 1;
+    }
+    let last = write_decimal(text, at, n / 10);
+    text[last] = b'0' + (n % 10) as u8;
+    last + 1
+}
+
+// A number in decimal and the byte that ends it.
+pub fn write_number(text: &mut [u8], at: usize, n: u32, end: u8) -> usize
+    requires { ⌜ at + length (decimal n ++ (end ∷ [])) ≤ length (now text) ⌝ }
+    ensures { λ r. ⌜ Wrote (now (text .entry)) at (decimal n ++ (end ∷ [])) (now (text .exit)) r ⌝ }
+{
+    let last = write_decimal(text, at, n);
+    text[last] = end;
+    last + 1
+}
+
+fn hex_digit(n: u8) -> u8
+    requires { ⌜ n < 16 ⌝ }
+    ensures { λ r. ⌜ r ≡ hexDigit n ⌝ }
+{
+    if n < 10 { b'0' + n } else { b'a' + (n - 10) }
+}
+
+// Two hexadecimal digits and the byte that ends them.
+pub fn write_hex(text: &mut [u8], at: usize, n: u8, end: u8) -> usize
+    requires { ⌜ at + 3 ≤ length (now text) ⌝ }
+    ensures { λ r. ⌜ Wrote (now (text .entry)) at (hex n ++ (end ∷ [])) (now (text .exit)) r ⌝ }
+{
+    text[at] = hex_digit(n / 16);
+    text[at + 1] = hex_digit(n % 16);
+    text[at + 2] = end;
+    at + 3
+}
