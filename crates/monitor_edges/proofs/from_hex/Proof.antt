@@ -1,0 +1,16 @@
+-- `monitor_edges::from_hex` is safe and ends: its indices stay within what it reads and writes.
+use borrow.Author.Needs.{needs}
+use Prim.Native.Nat.{_≤_, _-_}
+use mathlib.Core.Path.{_≡_}
+use Rattle.monitor_edges.proofs.from_hex.Statement.{statement}
+use Rattle.monitor_edges.proofs.from_hex.Tie as tie
+
+abbrev Inv-loop : tie.InvT-loop
+Inv-loop text bytes₀ i₀ bytes i = (i ≤ 300) × (lib.ListN.length bytes ≡ 300)
+
+abbrev μ-loop : tie.MeasureT-loop
+μ-loop text bytes₀ i₀ bytes i = 300 - i
+
+pub from-hex-spec : {M : Type 1} → statement M
+from-hex-spec =
+    tie.close (tie.spec Inv-loop μ-loop (λ c. search needs) (λ c. search needs) (λ c. search needs) (λ c κs. search needs) (λ c. search needs) (λ c. search needs) (λ c. search needs) (λ c κs. search needs) (λ c. search needs) (λ c. search needs) (λ c. search needs) (λ c. search needs) (λ c. search needs) (λ c. search needs) (λ c. search needs))

@@ -1,0 +1,16 @@
+-- `monitor_edges::number` is safe and ends: its indices stay within what it reads and writes.
+use borrow.Author.Needs.{needs}
+use Prim.Native.Nat.{_<_, _-_}
+use mathlib.Core.Path.{_≡_}
+use Rattle.monitor_edges.proofs.number.Statement.{statement}
+use Rattle.monitor_edges.proofs.number.Tie as tie
+
+abbrev Inv-loop : tie.InvT-loop
+Inv-loop text start n₀ i₀ i-end n i = (i-end ≡ lib.ListN.length text) × (n < 0x100000000)
+
+abbrev μ-loop : tie.MeasureT-loop
+μ-loop text start n₀ i₀ i-end n i = i-end - i
+
+pub number-spec : {M : Type 1} → statement M
+number-spec =
+    tie.close (tie.spec Inv-loop μ-loop (λ c. search needs) (λ c. search needs) (λ c. search needs) (λ c. search needs) (λ c κs. search needs) (λ c. search needs) (λ c. search needs) (λ c. search needs) (λ c. search needs) (λ c. search needs))
