@@ -62,7 +62,7 @@ within-and s t l =
     (λ e. holds-subset (holds s) (holds t) (λ a k h. of-bit t a k (and-bits s t (eqb→eq (bitAnd s t) s e) a (bit-of s a h))))
     (λ w. rw (bits-and endpoints s t l (λ a k h. bit-of t a (subset-member (holds s) (holds t) (holds-below s) w a (of-bit s a k h)))) (eqb-refl s))
 
--- only the empty word is within it
+-- only the empty set is within the empty set, which the code has as 0
 pub within-none : (s : ℕ) → s < 2 ^ 32 → within s 0 ≡ eqb s 0
 within-none s l = sym (within-and s 0 l) ∙ rw (and-zero-r s) (same (eqb 0 s) (eqb s 0) (λ t. rw (eqb→eq 0 s t) (eqb-refl s)) (λ t. rw (eqb→eq s 0 t) tt))
 

@@ -10,10 +10,4 @@ returns c = rw (c .before .before .event-in .ensures, c .within .ensures, c .bef
 
 pub redirect-readers-spec : {M : Type 1} → statement M
 redirect-readers-spec =
-    tie.close
-    (tie.spec
-    (λ c κs. search needs)
-    (λ c κs. search needs)
-    (λ c κs. search needs)
-    (λ c κs. search needs)
-    returns)
+    tie.close (tie.spec (λ c κs. search needs) (λ c κs. search needs) (λ c κs. search needs) (λ c κs. search needs) returns)

@@ -10,10 +10,4 @@ returns c = rw (c .before .before .message-in .ensures, c .within .ensures, c .b
 
 pub redirect-writers-spec : {M : Type 1} → statement M
 redirect-writers-spec =
-    tie.close
-    (tie.spec
-    (λ c κs. search needs)
-    (λ c κs. search needs)
-    (λ c κs. search needs)
-    (λ c κs. search needs)
-    returns)
+    tie.close (tie.spec (λ c κs. search needs) (λ c κs. search needs) (λ c κs. search needs) (λ c κs. search needs) returns)

@@ -54,5 +54,4 @@ returns-2 c =
 
 pub run-spec : {M : Type 1} → statement M
 run-spec =
-    tie.close
-    (tie.spec Inv-loop μ-loop loop-holds same-length same-length-2 returns (λ c κs. search needs) (λ c. search needs) (λ c. search needs) loop-again same-length-3 same-length-4 returns-2)
+    tie.close (tie.spec Inv-loop μ-loop loop-holds same-length same-length-2 returns (λ c κs. search needs) (λ c. search needs) (λ c. search needs) loop-again same-length-3 same-length-4 returns-2)

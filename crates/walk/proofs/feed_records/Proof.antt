@@ -57,6 +57,4 @@ loop-again c =
 
 pub feed-records-spec : {M : Type 1} → statement M
 feed-records-spec =
-    tie.close
-    (tie.spec Inv-loop μ-loop (λ c. search needs) (λ c. search needs) (λ c. search needs) (λ c. search needs) (λ c κs. search needs) (λ c. search needs) add-end add-nth add-nth-2
-    (λ c. search needs) (λ c. search needs) part-feed-record-end (λ c κs. search needs) counted-requires loop-less loop-again (λ c. search needs) (λ c κs. search needs) (λ c. search needs) (λ c. search needs))
+    tie.close (tie.spec Inv-loop μ-loop (λ c. search needs) (λ c. search needs) (λ c. search needs) (λ c. search needs) (λ c κs. search needs) (λ c. search needs) add-end add-nth add-nth-2 (λ c. search needs) (λ c. search needs) part-feed-record-end (λ c κs. search needs) counted-requires loop-less loop-again (λ c. search needs) (λ c κs. search needs) (λ c. search needs) (λ c. search needs))

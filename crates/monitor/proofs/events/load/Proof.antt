@@ -66,18 +66,4 @@ returns-4 c scripts =
 
 pub load-spec : {M : Type 1} → statement M
 load-spec =
-    tie.close
-    (tie.spec
-    (λ c κs. search needs)
-    (λ c κs. search needs)
-    returns
-    load-readers-requires
-    (λ c κs. search needs)
-    returns-2
-    load-writers-requires
-    (λ c κs. search needs)
-    returns-3
-    send-requires
-    (λ c. search needs)
-    (λ c. search needs)
-    returns-4)
+    tie.close (tie.spec (λ c κs. search needs) (λ c κs. search needs) returns load-readers-requires (λ c κs. search needs) returns-2 load-writers-requires (λ c κs. search needs) returns-3 send-requires (λ c. search needs) (λ c. search needs) returns-4)

@@ -103,5 +103,4 @@ returns-6 c scripts =
 
 pub redirect-spec : {M : Type 1} → statement M
 redirect-spec =
-    tie.close
-    (tie.spec (λ c κs. search needs) (λ c κs. search needs) returns (λ c κs. search needs) (λ c κs. search needs) returns-2 connection-word-requires (λ c κs. search needs) (λ c κs. search needs) (λ c. search needs) returns-3 redirect-readers-requires (λ c κs. search needs) (λ c. search needs) returns-4 redirect-writers-requires (λ c κs. search needs) (λ c. search needs) returns-5 follow-requires (λ c. search needs) (λ c. search needs) returns-6)
+    tie.close (tie.spec (λ c κs. search needs) (λ c κs. search needs) returns (λ c κs. search needs) (λ c κs. search needs) returns-2 connection-word-requires (λ c κs. search needs) (λ c κs. search needs) (λ c. search needs) returns-3 redirect-readers-requires (λ c κs. search needs) (λ c. search needs) returns-4 redirect-writers-requires (λ c κs. search needs) (λ c. search needs) returns-5 follow-requires (λ c. search needs) (λ c. search needs) returns-6)

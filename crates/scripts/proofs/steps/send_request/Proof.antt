@@ -61,20 +61,4 @@ returns-5 c =
 
 pub send-request-spec : {M : Type 1} → statement M
 send-request-spec =
-    tie.close
-    (tie.spec
-    (λ c κs. search needs)
-    (λ c κs. search needs)
-    returns
-    (λ c κs. search needs)
-    returns-2
-    (λ c κs. search needs)
-    returns-3
-    may-send-requires
-    (λ c κs. search needs)
-    returns-4
-    send-requires
-    (λ c κs. search needs)
-    (λ c. search needs)
-    (λ c. search needs)
-    returns-5)
+    tie.close (tie.spec (λ c κs. search needs) (λ c κs. search needs) returns (λ c κs. search needs) returns-2 (λ c κs. search needs) returns-3 may-send-requires (λ c κs. search needs) returns-4 send-requires (λ c κs. search needs) (λ c. search needs) (λ c. search needs) returns-5)

@@ -15,5 +15,4 @@ returns-2 c = left-out (c .before .may-write .result) _ _ _ (c .before .may-writ
 
 pub set-if-allowed-spec : {M : Type 1} → statement M
 set-if-allowed-spec =
-    tie.close
-    (tie.spec (λ c κs. search needs) (λ c κs. search needs) (λ c. search needs) returns returns-2)
+    tie.close (tie.spec (λ c κs. search needs) (λ c κs. search needs) (λ c. search needs) returns returns-2)

@@ -18,5 +18,4 @@ returns-2 c = left-out (c .before .may-store .result) _ _ _ (c .before .may-stor
 
 pub store-cookie-spec : {M : Type 1} → statement M
 store-cookie-spec =
-    tie.close
-    (tie.spec (λ c κs. search needs) (λ c κs. search needs) (λ c. search needs) returns returns-2)
+    tie.close (tie.spec (λ c κs. search needs) (λ c κs. search needs) (λ c. search needs) returns returns-2)

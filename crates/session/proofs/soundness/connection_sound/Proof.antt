@@ -33,12 +33,4 @@ returns-3 c =
 
 pub connection-sound-spec : {M : Type 1} → statement M
 connection-sound-spec =
-    tie.close
-    (tie.spec
-    returns
-    (λ c κs. search needs)
-    (λ c κs. search needs)
-    fits-requires
-    (λ c κs. search needs)
-    returns-2
-    returns-3)
+    tie.close (tie.spec returns (λ c κs. search needs) (λ c κs. search needs) fits-requires (λ c κs. search needs) returns-2 returns-3)

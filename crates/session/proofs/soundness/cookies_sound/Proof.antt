@@ -30,5 +30,4 @@ returns c = let past : c .before .loop .key ≡ hostKeys = omega arith in rw pas
 
 pub cookies-sound-spec : {M : Type 1} → statement M
 cookies-sound-spec =
-    tie.close
-    (tie.spec Inv-loop μ-loop (λ c κs. search needs) loop-holds (λ c κs. search needs) (λ c κs. search needs) (λ c. search needs) (λ c. search needs) loop-again returns)
+    tie.close (tie.spec Inv-loop μ-loop (λ c κs. search needs) loop-holds (λ c κs. search needs) (λ c κs. search needs) (λ c. search needs) (λ c. search needs) loop-again returns)

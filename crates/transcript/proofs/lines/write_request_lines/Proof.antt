@@ -80,6 +80,4 @@ returns-2 c =
 
 pub write-request-lines-spec : {M : Type 1} → statement M
 write-request-lines-spec =
-    tie.close
-    (tie.spec Inv-loop μ-loop loop-holds (λ c. search needs) (λ c. search needs) (λ c. search needs) (λ c κs. search needs) add-end
-    (λ c. search needs) (λ c. search needs) part-decode-end (λ c κs. search needs) (λ c. search needs) returns write-request-line-requires loop-less loop-again (λ c. search needs) returns-2)
+    tie.close (tie.spec Inv-loop μ-loop loop-holds (λ c. search needs) (λ c. search needs) (λ c. search needs) (λ c κs. search needs) add-end (λ c. search needs) (λ c. search needs) part-decode-end (λ c κs. search needs) (λ c. search needs) returns write-request-line-requires loop-less loop-again (λ c. search needs) returns-2)
