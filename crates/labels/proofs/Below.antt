@@ -1,8 +1,9 @@
 -- Tests: "or", tests that pass alike, and the bounded tests "all below" and "any below", each turned into what it says of every number, or of one, and back.
-use Prim.Native.Nat.{ℕ, zero, suc, _+_, _<_}
+use Prim.Native.Nat.{ℕ, zero, suc, _+_, _<_, _≤_}
+use native.Mathlib.Omega.{arith}
 use native.Mathlib.Numerals.{add-one}
-use native.Mathlib.Nat.{not-suc-le-zero, le-refl, le-step, eq-or-lt-of-le, le-of-suc-le-suc}
-use mathlib.Core.Bool.{Bool, true, false, _&&_, _||_}
+use native.Mathlib.Nat.{add-zero, add-suc, not-suc-le-zero, le-refl, le-step, eq-or-lt-of-le, le-of-suc-le-suc}
+use mathlib.Core.Bool.{Bool, true, false, _&&_, _||_, and-assoc, and-comm, and-true}
 use mathlib.Core.Logic.{_⊎_, inl, inr, ⊎-elim}
 use mathlib.Core.Path.{_≡_, refl, sym, subst}
 use lib.Dec.{T}
@@ -50,6 +51,52 @@ all-none test = refl
 pub all-next : (n : ℕ) (test : ℕ → Bool) → test n && allBelow n test ≡ allBelow (n + 1) test
 unfolding allBelow
 all-next n test = rw add-one refl
+
+pub one-passed : (n : ℕ) (test : ℕ → Bool) → true ≡ test n → true ≡ allBelow n test → true ≡ allBelow (n + 1) test
+one-passed n test e f = rw (← all-next n test, ← e, ← f)
+
+-- and stops at the first that fails
+pub one-failed : (k a : ℕ) (test : ℕ → Bool) → a < k → false ≡ test a → false ≡ allBelow k test
+one-failed k a test l e = same false (allBelow k test) (λ t. absurd t) (λ t. subst T (sym e) (all-at k test t a l))
+
+-- a loop that asks part after part: the first n, and the m that follow
+all-parts : (m n : ℕ) (test : ℕ → Bool) → allBelow m (λ i. test (n + i)) && allBelow n test ≡ allBelow (n + m) test
+unfolding allBelow
+all-parts zero n test = rw (add-zero n)
+all-parts (suc m) n test = rw (add-suc n m, and-assoc (test (n + m)), all-parts m n test)
+
+pub part-passed : (m n : ℕ) (test : ℕ → Bool) → true ≡ allBelow m (λ i. test (n + i)) → true ≡ allBelow n test → true ≡ allBelow (n + m) test
+part-passed m n test e f = rw (← all-parts m n test, ← e, ← f)
+
+pub part-failed : (k m n : ℕ) (test : ℕ → Bool) → n + m ≤ k → false ≡ allBelow m (λ i. test (n + i)) → false ≡ allBelow k test
+part-failed k m n test l e =
+    same false (allBelow k test) (λ t. absurd t) (λ t. subst T (sym e) (all-of m (λ i. test (n + i)) (λ i h. all-at k test t (n + i) (omega arith))))
+
+-- four tests from n on: code asks the first one first, and the definition the last
+pub four : (n : ℕ) (test : ℕ → Bool) → ((test n && test (n + 1)) && test (n + 2)) && test (n + 3) ≡ allBelow 4 (λ i. test (n + i))
+unfolding allBelow
+four n test =
+    rw (add-zero n, and-true, and-comm (test n) (test (n + 1)), and-comm (test (n + 1) && test n) (test (n + 2)))
+    (and-comm (test (n + 2) && (test (n + 1) && test n)) (test (n + 3)))
+
+pub all-eight : (test : ℕ → Bool) → test 0 ≡ true → test 1 ≡ true → test 2 ≡ true → test 3 ≡ true → test 4 ≡ true → test 5 ≡ true → test 6 ≡ true → test 7 ≡ true → allBelow 8 test ≡ true
+unfolding allBelow
+all-eight test a b c d e f g h = rw (a, b, c, d, e, f, g, h)
+
+-- eight tests from n on, two by two
+pub eight : (n : ℕ) (test : ℕ → Bool)
+    → (((test n && test (n + 1)) && (test (n + 2) && test (n + 2 + 1))) && (test (n + 4) && test (n + 4 + 1))) && (test (n + 6) && test (n + 6 + 1)) ≡ allBelow 8 (λ i. test (n + i))
+unfolding allBelow
+eight n test =
+    let third : n + 2 + 1 ≡ n + 3 = omega arith in
+    let fifth : n + 4 + 1 ≡ n + 5 = omega arith in
+    let seventh : n + 6 + 1 ≡ n + 7 = omega arith in
+    rw (third, fifth, seventh, add-zero n, and-true (test n))
+    (last-first (test n) (test (n + 1)) (test (n + 2)) (test (n + 3)) (test (n + 4)) (test (n + 5)) (test (n + 6)) (test (n + 7)))
+  where
+    last-first : (a b c d e f g h : Bool) → (((a && b) && (c && d)) && (e && f)) && (g && h) ≡ h && (g && (f && (e && (d && (c && (b && a))))))
+    last-first a b c d e f g h =
+        same ((((a && b) && (c && d)) && (e && f)) && (g && h)) (h && (g && (f && (e && (d && (c && (b && a))))))) (λ t. search (and-l, and-r, and-i) depth 9) (λ t. search (and-l, and-r, and-i) depth 9)
 
 pub any-of : (n : ℕ) (test : ℕ → Bool) (a : ℕ) → a < n → T (test a) → T (anyBelow n test)
 unfolding anyBelow

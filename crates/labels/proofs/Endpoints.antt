@@ -1,10 +1,11 @@
--- The sets of an address's endpoints: within just the sets that hold the endpoint. A table's rule, from a computed test.
-use Prim.Native.Nat.{ℕ, zero, suc, _+_, _<_}
-use native.Mathlib.Nat.{add-zero, zero-add, le-of-suc-le-suc, not-suc-le-zero}
+-- The sets of an address's endpoints: within just the sets that hold the endpoint. Arms of a table, and what is past them.
+use Prim.Native.Nat.{ℕ, zero, suc, _<_, _≤_, zero-le}
+use native.Mathlib.Nat.{eq-or-lt-of-le}
 use native.Mathlib.Omega.{arith}
-use mathlib.Core.Path.{_≡_, sym, ap, _∙_}
-use mathlib.Core.List.{List, [], _∷_}
-use lib.ListN.{getD}
+use mathlib.Core.Path.{_≡_, sym, ap}
+use mathlib.Core.Logic.{⊎-elim}
+use mathlib.Core.List.{[], _∷_}
+use types.Run.{OneOf}
 use borrow.Author.Tests.{lt-ltb}
 use Rattle.labels.specs.Membership.{endpoints}
 use Rattle.labels.specs.Sets.{holds, within}
@@ -19,17 +20,15 @@ pub event-within : (a s : ℕ) → a < endpoints → within (eventSet a) s ≡ h
 unfolding eventSet
 event-within a s l = rw (lt-ltb a endpoints l) (only-within (eventEndpoint a) s (omega arith))
 
--- The table of a rule: its values at the n numbers from the given one on. A constant of the code that is the table, entry by
--- entry, which antt computes, has the rule's value at each address.
-unfoldable pub tableOf : (ℕ → ℕ) → ℕ → ℕ → List ℕ
-tableOf rule zero from = []
-tableOf rule (suc n) from = rule from ∷ tableOf rule n (suc from)
+-- A table's arm for one number has the rule's value at it.
+pub entry : (rule : ℕ → ℕ) (k a : ℕ) → a ≡ k → rule k ≡ rule a
+entry rule k a e = ap rule (sym e)
 
-at-place : (rule : ℕ → ℕ) (n from a : ℕ) → a < n → getD (tableOf rule n from) a 0 ≡ rule (from + a)
-unfolding tableOf
-at-place rule zero from a l = absurd (not-suc-le-zero l)
-at-place rule (suc n) from zero l = ap rule (sym (add-zero from))
-at-place rule (suc n) from (suc a) l = at-place rule n (suc from) a (le-of-suc-le-suc l) ∙ ap rule (omega arith)
+-- A number that is none of the n numbers from 0 on, as the code's last arm has it, is not below n.
+abbrev pub NoneOf : ℕ → ℕ → Type 0
+NoneOf zero a = Unit {0}
+NoneOf (suc n) a = NoneOf n a × (OneOf (n ∷ []) a → ⊥)
 
-pub in-table : (rule : ℕ → ℕ) (a : ℕ) → a < endpoints → getD (tableOf rule endpoints 0) a 0 ≡ rule a
-in-table rule a l = at-place rule endpoints 0 a l ∙ ap rule (zero-add a)
+pub past-all : (n a : ℕ) → NoneOf n a → n ≤ a
+past-all zero a none = zero-le
+past-all (suc n) a (none, other) = ⊎-elim (λ e. absurd (other (sym e))) (λ l. l) (eq-or-lt-of-le (past-all n a none))

@@ -1,10 +1,10 @@
 -- The rows of a policy: a test of the address settles whether one is well formed, and whether it is empty.
-use Prim.Native.Nat.{ℕ, _^_, _<_, _≤_}
+use Prim.Native.Nat.{ℕ, _+_, _^_, _<_, _≤_}
 use native.Mathlib.Omega.{arith}
-use mathlib.Core.Bool.{Bool, true, false, not, _&&_, _||_, and-assoc, or-false}
+use mathlib.Core.Bool.{true, false, not, _&&_, and-assoc, or-false}
 use mathlib.Core.List.{List}
 use mathlib.Core.Logic.{⊎-elim}
-use mathlib.Core.Path.{_≡_, refl, sym, _∙_, subst}
+use mathlib.Core.Path.{_≡_, sym, _∙_, subst}
 use lib.Dec.{T, T-not, ltb, leb, eqb, ltb→lt, leb→le, le→leb}
 use lib.ListN.{length}
 use borrow.Author.Tests.{leb-true, lt-ltb, le-ltb, eq-eqb, ne-eqb}
@@ -12,7 +12,7 @@ use store.Enc.{and-l, and-r}
 use Rattle.labels.specs.Membership.{endpoints, allBelow}
 use Rattle.labels.specs.Sets.{holds, within}
 use Rattle.labels.specs.Addresses.{eventSet}
-use Rattle.labels.proofs.Below.{same, all-at, or-cases}
+use Rattle.labels.proofs.Below.{same, all-at, all-of, or-cases, or-l}
 use Rattle.labels.proofs.Endpoints.{event-within}
 use Rattle.labels.proofs.Words.{within-none}
 use Rattle.machine.proofs.Choices.{is-true}
@@ -27,12 +27,20 @@ module _ (p : List ℕ) (u : ℕ) where
       event-within (urlAddress p u) (urlReaders p u) (omega arith)
       ∙ rw (ne-eqb (urlAddress p u) noAddress (λ e. omega arith), lt-ltb (urlAddress p u) endpoints (omega arith))
 
-  -- a row with none
-  pub row-empty : 31 < urlAddress p u → urlReaders p u < 2 ^ 32 → urlWriters p u < 2 ^ 32
-      → (eqb (urlAddress p u) 255 && within (urlReaders p u) 0) && within (urlWriters p u) 0 ≡ rowWellFormed p u
-  unfolding rowWellFormed emptyRow
-  row-empty l lr lw =
-      rw (within-none (urlReaders p u) lr, within-none (urlWriters p u) lw, le-ltb (urlAddress p u) endpoints l, or-false, and-assoc)
+  -- the test of an empty row
+  pub row-empty : urlReaders p u < 2 ^ 32 → urlWriters p u < 2 ^ 32
+      → (eqb (urlAddress p u) 255 && within (urlReaders p u) 0) && within (urlWriters p u) 0 ≡ emptyRow p u
+  unfolding emptyRow
+  row-empty lr lw = rw (within-none (urlReaders p u) lr, within-none (urlWriters p u) lw, and-assoc)
+
+  -- a row without an address
+  pub row-unnamed : 31 < urlAddress p u → emptyRow p u ≡ rowWellFormed p u
+  unfolding rowWellFormed
+  row-unnamed l = rw (le-ltb (urlAddress p u) endpoints l, or-false)
+
+  pub empty-formed : T (emptyRow p u) → T (rowWellFormed p u)
+  unfolding rowWellFormed
+  empty-formed t = or-l (emptyRow p u) (ltb (urlAddress p u) endpoints && holds (urlReaders p u) (urlEvent p u)) t
 
   row-formed : T (wellFormed p) → u < urlRows → T (rowWellFormed p u)
   unfolding wellFormed
@@ -62,6 +70,12 @@ module _ (p : List ℕ) (u : ℕ) where
 
   pub url-given : u < urlRows → leb (urlAddress p u) 31 ≡ true → Url p u
   url-given l t = record { row = l; address = omega (arith, leb-true (urlAddress p u) 31 t) }
+
+-- a group of empty rows
+pub group-formed : (p : List ℕ) (n m : ℕ) → allBelow m (λ i. emptyRow p (n + i)) ≡ true → true ≡ allBelow m (λ i. rowWellFormed p (n + i))
+group-formed p n m e =
+    sym (is-true (allBelow m (λ i. rowWellFormed p (n + i)))
+    (all-of m (λ i. rowWellFormed p (n + i)) (λ i l. empty-formed p (n + i) (all-at m (λ i. emptyRow p (n + i)) (subst T (sym e) tt) i l))))
 
 -- a number that passes the test of the definition
 pub named-url : (p : List ℕ) (u : ℕ) → T (wellFormed p) → T (isUrl p u) → Url p u

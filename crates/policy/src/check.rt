@@ -1,10 +1,11 @@
 // Whether a policy is well formed (document 01, "The policy"): refusal 2.
 ghost use mathlib.Core.Path.{_≡_};
-ghost use mathlib.Core.Bool.{true};
-ghost use Prim.Native.Nat.{_<_};
-ghost use lib.ListN.{length};
+ghost use mathlib.Core.Bool.{true, _&&_};
+ghost use Prim.Native.Nat.{_+_, _*_, _<_, _≤_};
+ghost use lib.Dec.{eqb};
+ghost use lib.ListN.{length, getD};
 ghost use Rattle.labels.specs.Membership.{allBelow};
-ghost use Rattle.machine.specs.Policy.{policyWords, urlRows, connections, rowWellFormed, connectionWellFormed, wellFormed};
+ghost use Rattle.machine.specs.Policy.{policyWords, urlRows, connections, emptyRow, rowWellFormed, connectionWellFormed, wellFormed};
 ghost use Rattle.policy.specs.Given.{WellFormed};
 use super::words::CONNECTIONS;
 use super::words::URL_ROWS;
@@ -21,28 +22,85 @@ use labels::addresses::event_set;
 // The address of an empty row, whose sets are empty.
 const NO_ADDRESS: u32 = 255;
 
+// Rows are asked in groups of so many.
+const GROUP: usize = 8;
+
+fn row_empty(policy: &[u32], url: usize) -> bool
+    requires { ⌜ (length (now policy) ≡ policyWords) × (url < urlRows) ⌝ }
+    ensures { λ r. ⌜ r ≡ emptyRow (now (policy .entry)) url ⌝ }
+{
+    (url_address(policy, url) == NO_ADDRESS)
+        & url_readers(policy, url).within(EndpointSet::EMPTY)
+        & url_writers(policy, url).within(EndpointSet::EMPTY)
+}
+
 fn row_well_formed(policy: &[u32], url: usize) -> bool
     requires { ⌜ (length (now policy) ≡ policyWords) × (url < urlRows) ⌝ }
     ensures { λ r. ⌜ r ≡ rowWellFormed (now (policy .entry)) url ⌝ }
 {
     let address = url_address(policy, url);
-    if address <= LAST_ENDPOINT {
-        return event_set(address).within(url_readers(policy, url));
+    if LAST_ENDPOINT < address {
+        return row_empty(policy, url);
     }
-    (address == NO_ADDRESS)
-        & url_readers(policy, url).within(EndpointSet::EMPTY)
-        & url_writers(policy, url).within(EndpointSet::EMPTY)
+    event_set(address).within(url_readers(policy, url))
+}
+
+// Two words that lie side by side as one, which the compiler reads at once.
+fn pair(policy: &[u32], at: usize) -> u64
+    requires { ⌜ (length (now policy) ≡ policyWords) × (at + 2 ≤ policyWords) ⌝ }
+    ensures { λ r. ⌜ r ≡ getD (now (policy .entry)) at 0 + getD (now (policy .entry)) (at + 1) 0 * 4294967296 ⌝ }
+{
+    policy[at] as u64 + policy[at + 1] as u64 * 0x1_0000_0000
+}
+
+// In what two rows differ from two empty ones, whose words are 255, 0, 0, 255, 0, 0: 0 where they are empty.
+fn two_rows_left(policy: &[u32], first: usize) -> u64
+    requires { ⌜ (length (now policy) ≡ policyWords) × (first + 2 ≤ urlRows) ⌝ }
+    ensures { λ r. ⌜ eqb r 0 ≡ emptyRow (now (policy .entry)) first && emptyRow (now (policy .entry)) (first + 1) ⌝ }
+{
+    let at = 3 * first;
+    (pair(policy, at) ^ 0xff) | (pair(policy, at + 2) ^ 0xff_0000_0000) | pair(policy, at + 4)
+}
+
+fn group_empty(policy: &[u32], first: usize) -> bool
+    requires { ⌜ (length (now policy) ≡ policyWords) × (first + 8 ≤ urlRows) ⌝ }
+    ensures { λ r. ⌜ r ≡ allBelow 8 (λ i. emptyRow (now (policy .entry)) (first + i)) ⌝ }
+{
+    two_rows_left(policy, first)
+        | two_rows_left(policy, first + 2)
+        | two_rows_left(policy, first + 4)
+        | two_rows_left(policy, first + 6)
+        == 0
+}
+
+// A policy with few URLs has groups of empty rows, which are quicker asked at once.
+fn group_well_formed(policy: &[u32], first: usize) -> bool
+    requires { ⌜ (length (now policy) ≡ policyWords) × (first + 8 ≤ urlRows) ⌝ }
+    ensures { λ r. ⌜ r ≡ allBelow 8 (λ i. rowWellFormed (now (policy .entry)) (first + i)) ⌝ }
+{
+    if url_address(policy, first) == NO_ADDRESS {
+        if group_empty(policy, first) {
+            return true;
+        }
+    }
+    for i in 0..GROUP {
+        if !row_well_formed(policy, first + i) {
+            return false;
+        }
+    }
+    true
 }
 
 fn rows_well_formed(policy: &[u32]) -> bool
     requires { ⌜ length (now policy) ≡ policyWords ⌝ }
     ensures { λ r. ⌜ r ≡ allBelow urlRows (rowWellFormed (now (policy .entry))) ⌝ }
 {
-    let mut passed = true;
-    for url in 0..URL_ROWS {
-        passed = row_well_formed(policy, url) & passed;
+    for group in 0..URL_ROWS / GROUP {
+        if !group_well_formed(policy, GROUP * group) {
+            return false;
+        }
     }
-    passed
+    true
 }
 
 fn connections_well_formed(policy: &[u32]) -> bool

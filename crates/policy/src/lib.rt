@@ -3,9 +3,9 @@
 ghost use mathlib.Core.Path.{_≡_};
 ghost use mathlib.Core.Bool.{true};
 ghost use Prim.Native.Nat.{_<_};
-ghost use Rattle.labels.specs.Addresses.{hosts};
-ghost use Rattle.labels.specs.Sets.{holds};
-ghost use Rattle.machine.specs.Policy.{hostKeys, connections, cookieIndex, cookieReaders, urlHost, urlMessage, urlEvent, isUrl, fits, mayStore, mayRead, mayWrite, maySend, loadReaders, loadWriters, redirectReaders, redirectWriters};
+ghost use Rattle.labels.specs.Addresses.{hosts, messageSet};
+ghost use Rattle.labels.specs.Sets.{holds, within};
+ghost use Rattle.machine.specs.Policy.{hostKeys, connections, cookieIndex, cookieReaders, urlAddress, urlHost, urlMessage, urlEvent, isUrl, fits, mayStore, mayRead, mayWrite, maySend, loadReaders, loadWriters, redirectReaders, redirectWriters};
 ghost use Rattle.policy.specs.Given.{WellFormed, Url};
 
 pub mod check;
@@ -68,12 +68,20 @@ pub fn fits(policy: &[u32], connection: usize, url: usize) -> bool
         & message_in(policy, url, connection_writers(policy, connection))
 }
 
-// Whether a request to a URL may carry a cookie: its readers hold the URL's message endpoint.
-pub fn may_carry(policy: &[u32], url: usize, host: usize, key: usize) -> bool
-    requires { ⌜ WellFormed (now policy) × (host < hosts) × (key < hostKeys) × Url (now policy) url ⌝ }
-    ensures { λ r. ⌜ r ≡ holds (cookieReaders (now (policy .entry)) (cookieIndex host key)) (urlMessage (now (policy .entry)) url) ⌝ }
+// The set of a URL's message endpoint, for those who ask of it many times.
+pub fn message_of(policy: &[u32], url: usize) -> EndpointSet
+    requires { ⌜ WellFormed (now policy) × Url (now policy) url ⌝ }
+    ensures { λ r. ⌜ r .bits ≡ messageSet (urlAddress (now (policy .entry)) url) ⌝ }
 {
-    message_in(policy, url, cookie_readers(policy, host, key))
+    message_set(url_address(policy, url))
+}
+
+// Whether a request may carry a cookie: its readers hold the message endpoint, whose set is `message`.
+pub fn may_carry(policy: &[u32], message: EndpointSet, host: usize, key: usize) -> bool
+    requires { ⌜ WellFormed (now policy) × (host < hosts) × (key < hostKeys) ⌝ }
+    ensures { λ r. ⌜ r ≡ within (message .bits) (cookieReaders (now (policy .entry)) (cookieIndex host key)) ⌝ }
+{
+    message.within(cookie_readers(policy, host, key))
 }
 
 // Whether a cookie that a response or redirect on a connection delivers is stored.

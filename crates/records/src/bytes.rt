@@ -5,12 +5,13 @@ ghost use lib.ListN.{length, take, drop};
 ghost use lib.Seq.{sets};
 ghost use Rattle.records.specs.Bytes.{bit, number, digits};
 
-// Bit k of a byte: 1 where it is set, 0 where not.
+// Bit k of a byte: 1 where it is set, 0 where not. Over 32 bits, as the monitor asks for a key, so that the compiler sees the same question and asks
+// it once.
 pub fn bit(n: u8, k: usize) -> usize
     requires { ⌜ k < 8 ⌝ }
     ensures { λ r. ⌜ (r ≡ bit n k) × (r < 2) ⌝ }
 {
-    n as usize >> k & 1
+    (n as u32 >> k & 1) as usize
 }
 
 fn wide(x: u8) -> u32

@@ -8,7 +8,7 @@ use lib.ListN.{length}
 use borrow.Author.Tests.{lt-ltb, le-ltb}
 use Rattle.machine.specs.Choice.{branch}
 use Rattle.machine.specs.Session.{stateWords, Effects}
-use Rattle.machine.specs.Scripts.{scriptSteps, Step, stepLimit, startingWith, stepAt, step, stopped, followed, runFrom}
+use Rattle.machine.specs.Scripts.{scriptSteps, registerCount, Step, stepLimit, startingWith, stepAt, step, stopped, followed, runFrom}
 use Rattle.records.specs.declared.Record.{Record}
 use Rattle.session.specs.Output.{Output, output, writeEach}
 use Rattle.scripts.specs.declared.position.Position.{Position}
@@ -48,46 +48,48 @@ module _ (code : ℕ → Step) (p : List ℕ) (n page : ℕ) where
   run-step fuel i rs s steps o l = rw (lt-ltb i scriptSteps l, write-append, one-more)
 
 module _ (p code : List ℕ) (n page value : ℕ) (before buffer : List ℕ) where
-  pub record Running (s out : List ℕ) (q : Position) (steps : ℕ) : Type 0 where
+  pub record Running (s out : List ℕ) (q : Position) (rs : List ℕ) (steps : ℕ) : Type 0 where
     pub below : steps ≤ stepLimit
+    pub four : length rs ≡ registerCount
     pub long : length s ≡ stateWords
     pub same : length out ≡ length buffer
     pub room : q .written ≤ length out
-    pub remains : finished steps (runFrom (stepLimit - steps) (stepAt code) p n page (q .place) (q .registers) s) (output (q .written) out)
+    pub remains : finished steps (runFrom (stepLimit - steps) (stepAt code) p n page (q .place) rs s) (output (q .written) out)
         ≡ finished 0 (runFrom stepLimit (stepAt code) p n page 0 (startingWith value) before) (output 0 buffer)
 
-  pub goes-on : (s out t next : List ℕ) (q r : Position) (steps : ℕ) → steps < stepLimit → q .place < scriptSteps → Running s out q steps
-      → length t ≡ length s → length next ≡ length out
-      → reached r t next ≡ after (step p n page (stepAt code (q .place)) (q .place) (q .registers) s) (output (q .written) out)
-      → r .written ≤ length out → Running t next r (steps + 1)
-  goes-on s out t next q r steps ls lp run lt ln e room = record {
+  pub goes-on : (s out rs t next qs : List ℕ) (q r : Position) (steps : ℕ) → steps < stepLimit → q .place < scriptSteps → Running s out q rs steps
+      → length t ≡ length s → length next ≡ length out → length qs ≡ length rs
+      → reached r qs t next ≡ after (step p n page (stepAt code (q .place)) (q .place) rs s) (output (q .written) out)
+      → r .written ≤ length out → Running t next r qs (steps + 1)
+  goes-on s out rs t next qs q r steps ls lp run lt ln lq e room = record {
     below = omega arith;
+    four = lq ∙ run .four;
     long = lt ∙ run .long;
     same = ln ∙ run .same;
     room = rw ln room;
     remains =
         ap (λ (x : Reached). finished (steps + 1) (runFrom (stepLimit - (steps + 1)) (stepAt code) p n page (x .place) (x .registers) (x .state)) (x .output)) e
-        ∙ sym (run-step (stepAt code) p n page (stepLimit - (steps + 1)) (q .place) (q .registers) s steps (output (q .written) out) lp)
-        ∙ ap (λ (f : ℕ). finished steps (runFrom f (stepAt code) p n page (q .place) (q .registers) s) (output (q .written) out)) (fuel steps ls)
+        ∙ sym (run-step (stepAt code) p n page (stepLimit - (steps + 1)) (q .place) rs s steps (output (q .written) out) lp)
+        ∙ ap (λ (f : ℕ). finished steps (runFrom f (stepAt code) p n page (q .place) rs s) (output (q .written) out)) (fuel steps ls)
         ∙ run .remains;
   }
     where
       fuel : (k : ℕ) → k < stepLimit → suc (stepLimit - (k + 1)) ≡ stepLimit - k
       fuel k l = omega arith
 
-  pub ends : (s out : List ℕ) (q : Position) (r : Ran) → Running s out q (r .steps) → r .written ≡ q .written → scriptSteps ≤ q .place
+  pub ends : (s out : List ℕ) (q : Position) (rs : List ℕ) (r : Ran) → Running s out q rs (r .steps) → r .written ≡ q .written → scriptSteps ≤ q .place
       → ran r s out ≡ finished 0 (runFrom stepLimit (stepAt code) p n page 0 (startingWith value) before) (output 0 buffer)
-  ends s out q r run e l =
+  ends s out q rs r run e l =
       at-rest r s out (q .written) e
-      ∙ ap (λ (x : Effects). finished (r .steps) x (output (q .written) out)) (sym (run-past (stepAt code) p n page (stepLimit - r .steps) (q .place) (q .registers) s l))
+      ∙ ap (λ (x : Effects). finished (r .steps) x (output (q .written) out)) (sym (run-past (stepAt code) p n page (stepLimit - r .steps) (q .place) rs s l))
       ∙ run .remains
 
-  pub spent : (s out : List ℕ) (q : Position) (r : Ran) → Running s out q (r .steps) → r .written ≡ q .written → r .steps ≡ stepLimit
+  pub spent : (s out : List ℕ) (q : Position) (rs : List ℕ) (r : Ran) → Running s out q rs (r .steps) → r .written ≡ q .written → r .steps ≡ stepLimit
       → ran r s out ≡ finished 0 (runFrom stepLimit (stepAt code) p n page 0 (startingWith value) before) (output 0 buffer)
-  spent s out q r run e l =
+  spent s out q rs r run e l =
       at-rest r s out (q .written) e
-      ∙ ap (λ (x : Effects). finished (r .steps) x (output (q .written) out)) (sym (run-none (stepAt code) p n page (q .place) (q .registers) s))
-      ∙ ap (λ (f : ℕ). finished (r .steps) (runFrom f (stepAt code) p n page (q .place) (q .registers) s) (output (q .written) out)) (none (r .steps) l)
+      ∙ ap (λ (x : Effects). finished (r .steps) x (output (q .written) out)) (sym (run-none (stepAt code) p n page (q .place) rs s))
+      ∙ ap (λ (f : ℕ). finished (r .steps) (runFrom f (stepAt code) p n page (q .place) rs s) (output (q .written) out)) (none (r .steps) l)
       ∙ run .remains
     where
       none : (k : ℕ) → k ≡ stepLimit → 0 ≡ stepLimit - k

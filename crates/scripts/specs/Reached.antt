@@ -1,4 +1,4 @@
--- A run of a script as the code has it: what it stands at, with the state and the output that were lent to it.
+-- A run of a script as the code has it: what it stands at, with the registers, the state and the output that were lent to it.
 use Prim.Native.Nat.{ℕ, _+_}
 use mathlib.Core.List.{List}
 use Rattle.machine.specs.Session.{Effects}
@@ -14,8 +14,8 @@ pub record Reached : Type 0 where
   pub state : List ℕ
   pub output : Output
 
-abbrev pub reached : Position → List ℕ → List ℕ → Reached
-reached r s out = record { place = r .place; registers = r .registers; state = s; output = output (r .written) out }
+abbrev pub reached : Position → (registers state out : List ℕ) → Reached
+reached r rs s out = record { place = r .place; registers = rs; state = s; output = output (r .written) out }
 
 -- what a step of the definition leaves, its requests written after those of the steps before
 abbrev pub after : Progress → Output → Reached

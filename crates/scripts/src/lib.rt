@@ -45,11 +45,8 @@ pub fn run(
     requires { ⌜ WellFormed (now policy) × (length (now state) ≡ stateWords) × (length (now code) ≡ scriptBytes) × (connection < connections) × Url (now policy) page ⌝ }
     ensures { λ r. ⌜ ran r (now (state .exit)) (now (out .exit)) ≡ finished 0 (runFrom stepLimit (stepAt (now (code .entry))) (now (policy .entry)) connection page 0 (startingWith value) (now (state .entry))) (output 0 (now (out .entry))) ⌝ }
 {
-    let mut position = Position {
-        place: 0,
-        registers: [value, 0, 0, 0],
-        written: 0,
-    };
+    let mut position = Position::START;
+    let mut registers = [value, 0, 0, 0];
     let mut steps = 0u32;
     while steps < STEP_LIMIT {
         if SCRIPT_STEPS <= position.place {
@@ -58,7 +55,16 @@ pub fn run(
                 written: position.written,
             };
         }
-        position = step(policy, state, code, connection, page, position, out);
+        position = step(
+            policy,
+            state,
+            code,
+            connection,
+            page,
+            &mut registers,
+            position,
+            out,
+        );
         steps = steps + 1;
     }
     Ran {

@@ -7,7 +7,7 @@ ghost use Rattle.labels.specs.Addresses.{hosts};
 ghost use Rattle.machine.specs.Choice.{branch};
 ghost use Rattle.machine.specs.Policy.{hostKeys, connections, cookieIndex, mayWrite};
 ghost use Rattle.machine.specs.Session.{stateWords, setCookie};
-ghost use Rattle.machine.specs.Scripts.{scriptBytes, scriptSteps, constant, add, readCookie, writeCookie, sendRequest, skipIfZero, step, stepAt, goesOn};
+ghost use Rattle.machine.specs.Scripts.{scriptBytes, scriptSteps, registerCount, constant, add, readCookie, writeCookie, sendRequest, skipIfZero, step, stepAt, goesOn};
 ghost use Rattle.policy.specs.Given.{WellFormed, Url};
 ghost use Rattle.session.specs.Output.{output};
 ghost use Rattle.scripts.specs.Reached.{reached, after};
@@ -30,37 +30,44 @@ use session::words::cookie_value;
 use std::num::wrapping_add_u32;
 
 // Step 1.
-fn constant(position: Position, register: usize, value: u32) -> Position
-    requires { ⌜ position .place < scriptSteps ⌝ }
-    ensures { λ r. ⌜ ((p s : List ℕ) (n page : ℕ) → goesOn (r .place) (r .registers) s ≡ step p n page (constant register value) (position .place) (position .registers) s) × (r .written ≡ position .written) ⌝ }
+fn constant(registers: &mut [u32], position: Position, register: usize, value: u32) -> Position
+    requires { ⌜ (length (now registers) ≡ registerCount) × (position .place < scriptSteps) ⌝ }
+    ensures { λ r. ⌜ ((p s : List ℕ) (n page : ℕ) → goesOn (r .place) (now (registers .exit)) s ≡ step p n page (constant register value) (position .place) (now (registers .entry)) s) × (r .written ≡ position .written) ⌝ }
 {
     if register < REGISTERS {
-        return position.with_register(register, value);
+        registers[register] = value;
+        return position.after(0);
     }
     position.ended()
 }
 
 // Step 2: the sum wraps.
-fn add(position: Position, register: usize, left: usize, right: usize) -> Position
-    requires { ⌜ position .place < scriptSteps ⌝ }
-    ensures { λ r. ⌜ ((p s : List ℕ) (n page : ℕ) → goesOn (r .place) (r .registers) s ≡ step p n page (add register left right) (position .place) (position .registers) s) × (r .written ≡ position .written) ⌝ }
+fn add(
+    registers: &mut [u32],
+    position: Position,
+    register: usize,
+    left: usize,
+    right: usize,
+) -> Position
+    requires { ⌜ (length (now registers) ≡ registerCount) × (position .place < scriptSteps) ⌝ }
+    ensures { λ r. ⌜ ((p s : List ℕ) (n page : ℕ) → goesOn (r .place) (now (registers .exit)) s ≡ step p n page (add register left right) (position .place) (now (registers .entry)) s) × (r .written ≡ position .written) ⌝ }
 {
     if (register < REGISTERS) & ((left < REGISTERS) & (right < REGISTERS)) {
-        let sum = wrapping_add_u32(position.register(left), position.register(right));
-        return position.with_register(register, sum);
+        registers[register] = wrapping_add_u32(registers[left], registers[right]);
+        return position.after(0);
     }
     position.ended()
 }
 
 // Step 6.
-fn skip_if_zero(position: Position, register: usize, count: usize) -> Position
-    requires { ⌜ (position .place < scriptSteps) × (count < 256) ⌝ }
-    ensures { λ r. ⌜ ((p s : List ℕ) (n page : ℕ) → goesOn (r .place) (r .registers) s ≡ step p n page (skipIfZero register count) (position .place) (position .registers) s) × (r .written ≡ position .written) ⌝ }
+fn skip_if_zero(registers: &[u32], position: Position, register: usize, count: usize) -> Position
+    requires { ⌜ (length (now registers) ≡ registerCount) × (position .place < scriptSteps) × (count < 256) ⌝ }
+    ensures { λ r. ⌜ ((p s : List ℕ) (n page : ℕ) → goesOn (r .place) (now (registers .entry)) s ≡ step p n page (skipIfZero register count) (position .place) (now (registers .entry)) s) × (r .written ≡ position .written) ⌝ }
 {
     if REGISTERS <= register {
         return position.ended();
     }
-    if position.register(register) == 0 {
+    if registers[register] == 0 {
         return position.after(count);
     }
     position.after(0)
@@ -72,12 +79,13 @@ fn read_cookie(
     state: &[u32],
     connection: usize,
     page: usize,
+    registers: &mut [u32],
     position: Position,
     register: usize,
     key: usize,
 ) -> Position
-    requires { ⌜ WellFormed (now policy) × (length (now state) ≡ stateWords) × (connection < connections) × Url (now policy) page × (position .place < scriptSteps) ⌝ }
-    ensures { λ r. ⌜ (goesOn (r .place) (r .registers) (now (state .entry)) ≡ step (now (policy .entry)) connection page (readCookie register key) (position .place) (position .registers) (now (state .entry))) × (r .written ≡ position .written) ⌝ }
+    requires { ⌜ WellFormed (now policy) × (length (now state) ≡ stateWords) × (connection < connections) × Url (now policy) page × (length (now registers) ≡ registerCount) × (position .place < scriptSteps) ⌝ }
+    ensures { λ r. ⌜ (goesOn (r .place) (now (registers .exit)) (now (state .entry)) ≡ step (now (policy .entry)) connection page (readCookie register key) (position .place) (now (registers .entry)) (now (state .entry))) × (r .written ≡ position .written) ⌝ }
 {
     if HOST_KEYS <= key {
         return position.ended();
@@ -86,7 +94,8 @@ fn read_cookie(
     if (register < REGISTERS)
         & (may_read(policy, connection, host, key) & is_present(state, host, key))
     {
-        return position.with_register(register, cookie_value(state, host, key));
+        registers[register] = cookie_value(state, host, key);
+        return position.after(0);
     }
     position.ended()
 }
@@ -114,12 +123,13 @@ fn write_cookie(
     state: &mut [u32],
     connection: usize,
     page: usize,
+    registers: &[u32],
     position: Position,
     key: usize,
     register: usize,
 ) -> Position
-    requires { ⌜ WellFormed (now policy) × (length (now state) ≡ stateWords) × (connection < connections) × Url (now policy) page × (position .place < scriptSteps) ⌝ }
-    ensures { λ r. ⌜ (goesOn (r .place) (r .registers) (now (state .exit)) ≡ step (now (policy .entry)) connection page (writeCookie key register) (position .place) (position .registers) (now (state .entry))) × (r .written ≡ position .written) ⌝ }
+    requires { ⌜ WellFormed (now policy) × (length (now state) ≡ stateWords) × (connection < connections) × Url (now policy) page × (length (now registers) ≡ registerCount) × (position .place < scriptSteps) ⌝ }
+    ensures { λ r. ⌜ (goesOn (r .place) (now (registers .entry)) (now (state .exit)) ≡ step (now (policy .entry)) connection page (writeCookie key register) (position .place) (now (registers .entry)) (now (state .entry))) × (r .written ≡ position .written) ⌝ }
 {
     if HOST_KEYS <= key {
         return position.ended();
@@ -128,14 +138,7 @@ fn write_cookie(
         return position.ended();
     }
     let host = url_host(policy, page);
-    set_if_allowed(
-        policy,
-        state,
-        connection,
-        host,
-        key,
-        position.register(register),
-    );
+    set_if_allowed(policy, state, connection, host, key, registers[register]);
     position.after(0)
 }
 
@@ -152,7 +155,7 @@ fn send_request(
     out: &mut [u8],
 ) -> Position
     requires { ⌜ WellFormed (now policy) × (length (now state) ≡ stateWords) × (connection < connections) × Url (now policy) page × (position .place < scriptSteps) × (position .written ≤ length (now out)) ⌝ }
-    ensures { λ r. ⌜ (reached r (now (state .exit)) (now (out .exit)) ≡ after (step (now (policy .entry)) connection page (sendRequest url via handler) (position .place) (position .registers) (now (state .entry))) (output (position .written) (now (out .entry)))) × (r .written ≤ length (now (out .entry))) ⌝ }
+    ensures { λ r. ⌜ ((rs : List ℕ) → reached r rs (now (state .exit)) (now (out .exit)) ≡ after (step (now (policy .entry)) connection page (sendRequest url via handler) (position .place) rs (now (state .entry))) (output (position .written) (now (out .entry)))) × (r .written ≤ length (now (out .entry))) ⌝ }
 {
     if !is_url(policy, url) {
         return position.ended();
@@ -190,11 +193,12 @@ pub fn step(
     code: &[u8],
     connection: usize,
     page: usize,
+    registers: &mut [u32],
     position: Position,
     out: &mut [u8],
 ) -> Position
-    requires { ⌜ WellFormed (now policy) × (length (now state) ≡ stateWords) × (length (now code) ≡ scriptBytes) × (connection < connections) × Url (now policy) page × (position .place < scriptSteps) × (position .written ≤ length (now out)) ⌝ }
-    ensures { λ r. ⌜ (reached r (now (state .exit)) (now (out .exit)) ≡ after (step (now (policy .entry)) connection page (stepAt (now (code .entry)) (position .place)) (position .place) (position .registers) (now (state .entry))) (output (position .written) (now (out .entry)))) × (r .written ≤ length (now (out .entry))) ⌝ }
+    requires { ⌜ WellFormed (now policy) × (length (now state) ≡ stateWords) × (length (now code) ≡ scriptBytes) × (connection < connections) × Url (now policy) page × (length (now registers) ≡ registerCount) × (position .place < scriptSteps) × (position .written ≤ length (now out)) ⌝ }
+    ensures { λ r. ⌜ (reached r (now (registers .exit)) (now (state .exit)) (now (out .exit)) ≡ after (step (now (policy .entry)) connection page (stepAt (now (code .entry)) (position .place)) (position .place) (now (registers .entry)) (now (state .entry))) (output (position .written) (now (out .entry)))) × (r .written ≤ length (now (out .entry))) ⌝ }
 {
     let at = 4 * position.place;
     let op = byte(code, at);
@@ -202,12 +206,12 @@ pub fn step(
     let b = byte(code, at + 2);
     let c = byte(code, at + 3);
     match op {
-        1 => constant(position, a, (256 * b + c) as u32),
-        2 => add(position, a, b, c),
-        3 => read_cookie(policy, state, connection, page, position, a, b),
-        4 => write_cookie(policy, state, connection, page, position, a, b),
+        1 => constant(registers, position, a, (256 * b + c) as u32),
+        2 => add(registers, position, a, b, c),
+        3 => read_cookie(policy, state, connection, page, registers, position, a, b),
+        4 => write_cookie(policy, state, connection, page, registers, position, a, b),
         5 => send_request(policy, state, connection, page, position, a, b, c, out),
-        6 => skip_if_zero(position, a, b),
+        6 => skip_if_zero(registers, position, a, b),
         _ => position.ended(),
     }
 }

@@ -8,7 +8,7 @@ use mathlib.Core.Path.{_≡_, refl, sym, ap, _∙_}
 use lib.Dec.{lit<, eqb, eqb·suc-zero, eqb·zero-suc, eqb·suc-suc}
 use borrow.Author.Tests.{eqb-true, eqb-false}
 use lib.Bits.{bitOr, or-step, or-shr}
-use lib.Pow.{shr-shr, mod-pow-add, pow-lt, pow-mono}
+use lib.Pow.{pow-pos, shr-shr, mod-pow-add, pow-lt, pow-mono}
 use mir.Val.{boolByte}
 use Rattle.machine.specs.Choice.{branch}
 use Rattle.machine.specs.Policy.{hostKeys}
@@ -38,6 +38,14 @@ of-bits (suc n) y test f =
     let low : y % 2 ≡ branch (test 0) 1 0 = digit y (test 0) (f 0 (zero-lt-suc n)) in
     let whole = mod-pow-add y n 1 in
     rw (← add-one n) (omega (arith, whole, rest, low))
+
+-- a test that no key passes
+pub none-has : (j : ℕ) → has 0 j ≡ false
+unfolding has
+none-has j = ap (λ (x : ℕ). eqb (x % 2) 1) (div-eq-of-lt (pow-pos j))
+
+pub none-mapped : (test : ℕ → Bool) → ((j : ℕ) → test j ≡ false) → 0 ≡ keyMap test
+none-mapped test f = of-bits hostKeys 0 test (λ j _. none-has j ∙ sym (f j))
 
 -- ---- a key added by "or"
 

@@ -1,12 +1,20 @@
--- What the kind of an open connection asks of its origin and handler, whatever its URL (document 01, "The state").
+-- The two shapes of an open connection's word (document 01, "The state"), whatever the policy: its kind, and the other fields in their ranges.
 use Prim.Native.Nat.{ℕ}
-use mathlib.Core.Bool.{Bool, _&&_, _||_}
-use mathlib.Core.List.{List}
+use mathlib.Core.Bool.{Bool, _&&_}
 use lib.Dec.{ltb, eqb}
-use Rattle.machine.specs.Policy.{isUrl}
-use Rattle.machine.specs.Session.{documentKind, scriptKind, scriptCount}
+use Rattle.machine.specs.Policy.{urlRows}
+use Rattle.machine.specs.Session.{documentKind, scriptKind, scriptCount, kindOf, originOf, handlerOf, urlOf}
 
-unfoldable pub kindSound : List ℕ → ℕ → ℕ → ℕ → Bool
-kindSound p kind origin handler =
-    ((eqb kind documentKind && eqb origin 0) && eqb handler 0)
-    || ((eqb kind scriptKind && isUrl p origin) && ltb handler scriptCount)
+unfoldable pub documentShape : ℕ → Bool
+documentShape w =
+    eqb (kindOf w) documentKind
+    && (eqb (originOf w) 0
+    && (eqb (handlerOf w) 0
+    && ltb (urlOf w) urlRows))
+
+unfoldable pub scriptShape : ℕ → Bool
+scriptShape w =
+    eqb (kindOf w) scriptKind
+    && (ltb (originOf w) urlRows
+    && (ltb (handlerOf w) scriptCount
+    && ltb (urlOf w) urlRows))

@@ -1,3 +1,4 @@
 pub mod Delivered
 pub mod Output
 pub mod Kinds
+pub mod Strays

@@ -73,7 +73,8 @@ fn store_if_delivered(
     }
 }
 
-// Stores the cookies that came on a connection for a host, lowest key first; one that may not be stored is passed over.
+// Stores the cookies that came on a connection for a host, lowest key first; one that may not be stored is passed over. Most records
+// bring none.
 pub fn store_cookies(
     policy: &[u32],
     state: &mut [u32],
@@ -85,6 +86,9 @@ pub fn store_cookies(
     requires { ⌜ WellFormed (now policy) × (length (now state) ≡ stateWords) × (connection < connections) × (host < hosts) ⌝ }
     ensures { λ _. ⌜ now (state .exit) ≡ storeCookies (now (policy .entry)) connection host (delivered keys values) (now (state .entry)) ⌝ }
 {
+    if keys == 0 {
+        return;
+    }
     for key in 0..HOST_KEYS {
         store_if_delivered(policy, state, connection, host, keys, key, values[key]);
     }

@@ -1,13 +1,15 @@
 // The request that opens or moves a connection: its cookies, its fields, and its bytes in the output.
 ghost use mathlib.Core.Path.{_≡_};
+ghost use mathlib.Core.Bool.{_&&_};
 ghost use mathlib.Core.List.{map};
 ghost use Prim.Native.Nat.{_<_, _≤_};
 ghost use lib.ListN.{length};
 ghost use Rattle.labels.specs.Addresses.{hosts};
+ghost use Rattle.labels.specs.Sets.{within};
 ghost use Rattle.records.specs.Layout.{keyNumbers};
 ghost use Rattle.machine.specs.Choice.{branch};
-ghost use Rattle.machine.specs.Policy.{hostKeys, connections, cookieIndex, urlHost};
-ghost use Rattle.machine.specs.Session.{stateWords, cookieValue, has, keyMap, attaches, requestMap, request, packed, setConnection};
+ghost use Rattle.machine.specs.Policy.{hostKeys, connections, cookieIndex, cookieReaders, urlHost};
+ghost use Rattle.machine.specs.Session.{stateWords, cookieValue, has, present, keyMap, attaches, requestMap, request, packed, setConnection};
 ghost use Rattle.policy.specs.Given.{WellFormed, Url};
 ghost use Rattle.session.specs.Output.{output, writeNext};
 use super::cookies::has;
@@ -15,8 +17,11 @@ use super::cookies::is_present;
 use super::pending::DOCUMENT;
 use super::pending::Pending;
 use super::words::cookie_value;
+use super::words::presence;
 use super::words::set_connection;
+use labels::EndpointSet;
 use policy::may_carry;
+use policy::message_of;
 use policy::url_host;
 use policy::words::HOST_KEYS;
 use records::Direction;
@@ -25,23 +30,27 @@ use records::map_bytes::DOCUMENT_REQUEST;
 use records::map_bytes::SCRIPT_REQUEST;
 use records::map_bytes::WITH_COOKIES;
 
-// Whether a request to a URL carries a cookie of its host: it is present, and the URL's message endpoint may read it.
-fn attaches(policy: &[u32], state: &[u32], url: usize, host: usize, key: usize) -> bool
-    requires { ⌜ WellFormed (now policy) × Url (now policy) url × (length (now state) ≡ stateWords) × (host ≡ urlHost (now policy) url) × (host < hosts) × (key < hostKeys) ⌝ }
-    ensures { λ r. ⌜ r ≡ attaches (now (policy .entry)) (now (state .entry)) url key ⌝ }
+// Whether a request carries a cookie of a host: it is present, and its readers hold the message endpoint, whose set is `message`.
+fn attaches(policy: &[u32], state: &[u32], message: EndpointSet, host: usize, key: usize) -> bool
+    requires { ⌜ WellFormed (now policy) × (length (now state) ≡ stateWords) × (host < hosts) × (key < hostKeys) ⌝ }
+    ensures { λ r. ⌜ r ≡ present (now (state .entry)) host key && within (message .bits) (cookieReaders (now (policy .entry)) (cookieIndex host key)) ⌝ }
 {
-    is_present(state, host, key) & may_carry(policy, url, host, key)
+    is_present(state, host, key) & may_carry(policy, message, host, key)
 }
 
-// The map of the keys of the cookies that a request to a URL carries.
+// The map of the keys of the cookies that a request to a URL carries. A host without cookies, the common case, is told at once.
 fn attached_keys(policy: &[u32], state: &[u32], url: usize) -> u8
     requires { ⌜ WellFormed (now policy) × Url (now policy) url × (length (now state) ≡ stateWords) ⌝ }
     ensures { λ r. ⌜ r ≡ keyMap (attaches (now (policy .entry)) (now (state .entry)) url) ⌝ }
 {
     let host = url_host(policy, url);
+    if presence(state, host) == 0 {
+        return 0;
+    }
+    let message = message_of(policy, url);
     let mut keys = 0u32;
     for key in 0..HOST_KEYS {
-        keys = keys + ((attaches(policy, state, url, host, key) as u32) << key);
+        keys = keys + ((attaches(policy, state, message, host, key) as u32) << key);
     }
     keys as u8
 }

@@ -1,18 +1,18 @@
 // Whether a state is sound (document 01, "The state"): refusal 4.
 ghost use mathlib.Core.Path.{_≡_};
-ghost use Prim.Native.Nat.{_<_};
+ghost use mathlib.Core.Bool.{_&&_, _||_};
+ghost use Prim.Native.Nat.{_+_, _<_, _≤_};
+ghost use lib.Dec.{eqb};
 ghost use lib.ListN.{length};
 ghost use Rattle.labels.specs.Addresses.{hosts};
 ghost use Rattle.labels.specs.Membership.{allBelow};
 ghost use Rattle.machine.specs.Policy.{hostKeys, connections};
-ghost use Rattle.machine.specs.Session.{stateWords, connectionWord, cookieSound, hostSound, connectionSound, sound};
+ghost use Rattle.machine.specs.Session.{stateWords, presence, connectionWord, has, free, cookieSound, hostSound, connectionSound, sound};
 ghost use Rattle.policy.specs.Given.{WellFormed};
-ghost use Rattle.session.specs.Kinds.{kindSound};
+ghost use Rattle.session.specs.Kinds.{documentShape, scriptShape};
+ghost use Rattle.session.specs.Strays.{noneLeft};
 use super::cookies::has;
-use super::pending::DOCUMENT;
 use super::pending::FREE;
-use super::pending::Pending;
-use super::pending::SCRIPT;
 use super::pending::SCRIPTS;
 use super::words::WORDS;
 use super::words::connection_word;
@@ -23,40 +23,92 @@ use policy::is_url;
 use policy::words::CONNECTIONS;
 use policy::words::HOST_KEYS;
 use policy::words::HOSTS;
+use policy::words::URL_ROWS;
 
-// An absent cookie's value is 0.
-fn cookies_sound(state: &[u32], host: usize) -> bool
-    requires { ⌜ (length (now state) ≡ stateWords) × (host < hosts) ⌝ }
-    ensures { λ r. ⌜ r ≡ allBelow hostKeys (cookieSound (now (state .entry)) host) ⌝ }
+// The strays are a word for each key: the values of absent cookies, which are to be 0, joined by "or" over the hosts.
+
+// What the value of a cookie adds to the strays: nothing where the cookie is present.
+fn stray_value(keys: u32, key: usize, value: u32) -> u32
+    requires { ⌜ key < hostKeys ⌝ }
+    ensures { λ r. ⌜ eqb r 0 ≡ has keys key || eqb value 0 ⌝ }
 {
-    let keys = presence(state, host);
-    let mut passed = true;
-    for key in 0..HOST_KEYS {
-        passed = (has(keys, key) | (cookie_value(state, host, key) == 0)) & passed;
-    }
-    passed
+    if has(keys, key) { 0 } else { value }
 }
 
+// The strays with the values of a host's absent cookies, by the keys that it has.
+fn with_absent(strays: [u32; 8], state: &[u32], host: usize, keys: u32) -> [u32; 8]
+    requires { ⌜ (length (now state) ≡ stateWords) × (host < hosts) × (keys ≡ presence (now state) host) ⌝ }
+    ensures { λ r. ⌜ noneLeft r ≡ allBelow hostKeys (cookieSound (now (state .entry)) host) && noneLeft strays ⌝ }
+{
+    let mut all = strays;
+    for key in 0..HOST_KEYS {
+        all[key] = all[key] | stray_value(keys, key, cookie_value(state, host, key));
+    }
+    all
+}
+
+// The same by the host alone, at less cost for two kinds of host: of one that has every key no value is read, and of one that has none
+// every value is a stray, with no key asked, since the compiler sees the 0.
+fn with_strays_of(strays: [u32; 8], state: &[u32], host: usize) -> [u32; 8]
+    requires { ⌜ (length (now state) ≡ stateWords) × (host < hosts) ⌝ }
+    ensures { λ r. ⌜ noneLeft r ≡ allBelow hostKeys (cookieSound (now (state .entry)) host) && noneLeft strays ⌝ }
+{
+    let keys = presence(state, host);
+    if keys == 0xff {
+        return strays;
+    }
+    if keys == 0 {
+        return with_absent(strays, state, host, 0);
+    }
+    with_absent(strays, state, host, keys)
+}
+
+fn none_left(strays: [u32; 8]) -> bool
+    ensures { λ r. ⌜ r ≡ noneLeft strays ⌝ }
+{
+    let mut all = 0u32;
+    for key in 0..HOST_KEYS {
+        all = all | strays[key];
+    }
+    all == 0
+}
+
+// Two tests at the end, of what all hosts have: to stop at a host that is not sound would cost the others more.
 fn hosts_sound(state: &[u32]) -> bool
     requires { ⌜ length (now state) ≡ stateWords ⌝ }
     ensures { λ r. ⌜ r ≡ allBelow hosts (hostSound (now (state .entry))) ⌝ }
 {
-    let mut passed = true;
+    let mut strays = [0u32; 8];
+    let mut bits = 0u32;
     for host in 0..HOSTS {
-        passed = (presence(state, host) < 0x100) & cookies_sound(state, host) & passed;
+        bits = bits | presence(state, host);
+        // with a name of its own: a call's result cannot go straight into an array that is in use
+        let with_host = with_strays_of(strays, state, host);
+        strays = with_host;
     }
-    passed
+    (bits < 0x100) & none_left(strays)
 }
 
-// Whether an open connection's origin and handler are those of its kind.
-fn kind_sound(policy: &[u32], pending: Pending) -> bool
-    requires { ⌜ WellFormed (now policy) ⌝ }
-    ensures { λ r. ⌜ r ≡ kindSound (now (policy .entry)) (pending .kind) (pending .origin) (pending .handler) ⌝ }
+// The two shapes of an open connection's word are asked of the whole word, so that each is one mask and one comparison.
+
+// A document's: kind 1, a URL below 64, and 0 between, which is one range of words.
+fn is_document(word: u32) -> bool
+    ensures { λ r. ⌜ r ≡ documentShape word ⌝ }
 {
-    (pending.kind == DOCUMENT) & (pending.origin == 0) & (pending.handler == 0)
-        | (pending.kind == SCRIPT) & is_url(policy, pending.origin) & (pending.handler < SCRIPTS)
+    (0x100_0000 <= word) & (word < 0x100_0040)
 }
 
+// A script's request: kind 2 and an origin below 64 are one range too.
+fn is_script(word: u32) -> bool
+    ensures { λ r. ⌜ r ≡ scriptShape word ⌝ }
+{
+    (0x200_0000 <= word)
+        & (word < 0x240_0000)
+        & (word / 0x100 % 0x100 < SCRIPTS as u32)
+        & (word % 0x100 < URL_ROWS as u32)
+}
+
+// URL and origin are taken below 64, which leaves `is_url` no bound to test: a word in which either is above has neither shape.
 fn connection_sound(policy: &[u32], connection: usize, word: u32) -> bool
     requires { ⌜ WellFormed (now policy) × (connection < connections) ⌝ }
     ensures { λ r. ⌜ r ≡ connectionSound (now (policy .entry)) connection word ⌝ }
@@ -64,23 +116,67 @@ fn connection_sound(policy: &[u32], connection: usize, word: u32) -> bool
     if word == FREE {
         return true;
     }
-    let pending = Pending::of(word);
-    let url = pending.url;
-    if is_url(policy, url) {
-        return fits(policy, connection, url) & kind_sound(policy, pending);
+    let url = word as usize % URL_ROWS;
+    if !is_url(policy, url) {
+        return false;
     }
-    false
+    if !fits(policy, connection, url) {
+        return false;
+    }
+    if is_document(word) {
+        return true;
+    }
+    if !is_script(word) {
+        return false;
+    }
+    is_url(policy, word as usize / 0x1_0000 % URL_ROWS)
 }
 
+// The words of two connections as one, which the compiler reads at once.
+fn two_connections(state: &[u32], first: usize) -> u64
+    requires { ⌜ (length (now state) ≡ stateWords) × (first + 2 ≤ connections) ⌝ }
+    ensures { λ r. ⌜ eqb r 0 ≡ eqb (connectionWord (now (state .entry)) first) free && eqb (connectionWord (now (state .entry)) (first + 1)) free ⌝ }
+{
+    connection_word(state, first) as u64 + connection_word(state, first + 1) as u64 * 0x1_0000_0000
+}
+
+// Whether the four connections from this one on are free: their words joined by "or" are 0 just where each is.
+fn four_free(state: &[u32], first: usize) -> bool
+    requires { ⌜ (length (now state) ≡ stateWords) × (first + 4 ≤ connections) ⌝ }
+    ensures { λ r. ⌜ r ≡ allBelow 4 (λ i. eqb (connectionWord (now (state .entry)) (first + i)) free) ⌝ }
+{
+    two_connections(state, first) | two_connections(state, first + 2) == 0
+}
+
+// Whether the four connections from this one on are sound.
+fn four_sound(policy: &[u32], state: &[u32], first: usize) -> bool
+    requires { ⌜ WellFormed (now policy) × (length (now state) ≡ stateWords) × (first + 4 ≤ connections) ⌝ }
+    ensures { λ r. ⌜ r ≡ allBelow 4 (λ i. connectionSound (now (policy .entry)) (first + i) (connectionWord (now (state .entry)) (first + i))) ⌝ }
+{
+    for i in 0..4 {
+        let connection = first + i;
+        if !connection_sound(policy, connection, connection_word(state, connection)) {
+            return false;
+        }
+    }
+    true
+}
+
+// Four at a time: most connections are free, and four that are free take one test.
 fn connections_sound(policy: &[u32], state: &[u32]) -> bool
     requires { ⌜ WellFormed (now policy) × (length (now state) ≡ stateWords) ⌝ }
     ensures { λ r. ⌜ r ≡ allBelow connections (λ n. connectionSound (now (policy .entry)) n (connectionWord (now (state .entry)) n)) ⌝ }
 {
-    let mut passed = true;
-    for connection in 0..CONNECTIONS {
-        passed = connection_sound(policy, connection, connection_word(state, connection)) & passed;
+    let mut first = 0;
+    while first < CONNECTIONS {
+        if !four_free(state, first) {
+            if !four_sound(policy, state, first) {
+                return false;
+            }
+        }
+        first = first + 4;
     }
-    passed
+    true
 }
 
 // For a policy that is well formed.

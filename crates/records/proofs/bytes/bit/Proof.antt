@@ -1,5 +1,6 @@
 -- `bytes::bit` meets its contract, by the law of a mask.
 use Prim.Native.Nat.{_/_, _^_}
+use native.Mathlib.Omega.{arith}
 use lib.Bits.{and-mask, mask-lt}
 use borrow.Author.Needs.{needs}
 use Rattle.records.proofs.bytes.bit.Statement.{statement}
@@ -9,4 +10,4 @@ returns : tie.Need-returns
 returns c = (and-mask _ 1, mask-lt (c .args .n / 2 ^ c .args .k) 1)
 
 pub bit-spec : {M : Type 1} → statement M
-bit-spec = tie.close (tie.spec (λ c. search needs) returns)
+bit-spec = tie.close (tie.spec (λ c. search needs) (λ c. search needs) (λ c. omega (arith, mask-lt (c .args .n / 2 ^ c .args .k) 1)) returns)
