@@ -1,0 +1,185 @@
+//! The tables, in Markdown.
+
+use std::fmt::Write;
+use std::fs;
+use std::process::Command;
+
+use crate::growth::{self, Growth};
+use crate::timing::{measure as time, Times};
+use crate::workload::{self, Session, Workload};
+
+/// What the proved library may take, for what the function tuned by hand takes.
+const BAR: f64 = 1.1;
+
+pub struct Row {
+    pub name: &'static str,
+    pub times: Times,
+    pub barred: bool,
+}
+
+pub struct Measured {
+    pub rounds: usize,
+    pub workloads: Vec<Row>,
+    pub checks: Vec<Checks>,
+    pub growth: Vec<Growth>,
+}
+
+/// What a call costs that is refused after number 2, after number 4, and the mean of the session.
+pub struct Checks {
+    name: &'static str,
+    policy: Times,
+    both: Times,
+    whole: Times,
+}
+
+pub fn measure(rounds: usize) -> Measured {
+    let workloads = workload::all();
+    Measured {
+        rounds,
+        workloads: workloads
+            .iter()
+            .map(|workload| row(workload, rounds))
+            .collect(),
+        checks: workloads[..2]
+            .iter()
+            .map(|workload| checks(workload, rounds))
+            .collect(),
+        growth: growth::all(rounds),
+    }
+}
+
+fn row(workload: &Workload, rounds: usize) -> Row {
+    Row {
+        name: workload.name,
+        times: time(&workload.sessions, rounds),
+        barred: workload.barred,
+    }
+}
+
+fn checks(workload: &Workload, rounds: usize) -> Checks {
+    let malformed = |session: &Session| workload::with(session, &[]);
+    let no_scripts = |session: &Session| Session {
+        scripts: Vec::new(),
+        ..malformed(session)
+    };
+    let sessions = &workload.sessions;
+    Checks {
+        name: workload.name,
+        policy: time(&sessions.iter().map(no_scripts).collect::<Vec<_>>(), rounds),
+        both: time(&sessions.iter().map(malformed).collect::<Vec<_>>(), rounds),
+        whole: time(sessions, rounds),
+    }
+}
+
+pub fn tables(measured: &Measured) -> String {
+    let mut text = String::new();
+    let written = machine(&mut text, measured)
+        .and_then(|()| workload_table(&mut text, &measured.workloads))
+        .and_then(|()| check_table(&mut text, &measured.checks))
+        .and_then(|()| {
+            measured
+                .growth
+                .iter()
+                .try_for_each(|growth| growth_table(&mut text, growth))
+        });
+    written.expect("a string can be written to");
+    text
+}
+
+fn machine(text: &mut String, measured: &Measured) -> std::fmt::Result {
+    let cpu = fs::read_to_string("/proc/cpuinfo").unwrap_or_default();
+    let name = cpu
+        .lines()
+        .find_map(|line| line.strip_prefix("model name")?.split_once(": "));
+    let name = name.map_or("an unknown processor", |(_, name)| name);
+    writeln!(
+        text,
+        "Measured on {name}, with {} and {}.",
+        said("rustc", "--version"),
+        said("rt", "version")
+    )?;
+    writeln!(
+        text,
+        "Nanoseconds for one call, best of {} rounds. The state is set where a session starts;",
+        measured.rounds
+    )?;
+    writeln!(text, "neither state nor output is cleared between calls.\n")
+}
+
+fn said(program: &str, argument: &str) -> String {
+    let output = Command::new(program).arg(argument).output();
+    let text = output.map(|output| String::from_utf8_lossy(&output.stdout).trim().to_string());
+    text.unwrap_or_else(|_| format!("an unknown {program}"))
+}
+
+fn workload_table(text: &mut String, rows: &[Row]) -> std::fmt::Result {
+    writeln!(
+        text,
+        "| Workload | `feed` | `feed_fast` | ratio | bar |\n|---|--:|--:|--:|---|"
+    )?;
+    for row in rows {
+        let Times { proved, by_hand } = row.times;
+        let ratio = row.times.ratio();
+        let bar = match row.barred {
+            true if ratio <= BAR => "met",
+            true => "not met",
+            false => "",
+        };
+        writeln!(
+            text,
+            "| {} | {proved:.1} | {by_hand:.1} | {ratio:.2} | {bar} |",
+            row.name
+        )?;
+    }
+    writeln!(text)
+}
+
+fn check_table(text: &mut String, rows: &[Checks]) -> std::fmt::Result {
+    writeln!(text, "| Checks in `feed` | number 2 | numbers 2 and 4 | a record | share | in `feed_fast` |\n|---|--:|--:|--:|--:|--:|")?;
+    for Checks {
+        name,
+        policy,
+        both,
+        whole,
+    } in rows
+    {
+        let share = |part: f64, all: f64| 100.0 * part / all;
+        writeln!(
+            text,
+            "| {name} | {:.1} | {:.1} | {:.1} | {:.0} % | {:.0} % |",
+            policy.proved,
+            both.proved,
+            whole.proved,
+            share(both.proved, whole.proved),
+            share(both.by_hand, whole.by_hand),
+        )?;
+    }
+    writeln!(text)
+}
+
+fn growth_table(text: &mut String, growth: &Growth) -> std::fmt::Result {
+    let cells = |cell: &dyn Fn(&(usize, Times)) -> String| {
+        growth
+            .points
+            .iter()
+            .map(|point| format!(" {} |", cell(point)))
+            .collect::<String>()
+    };
+    writeln!(
+        text,
+        "| {} |{}",
+        growth.by,
+        cells(&|(at, _)| at.to_string())
+    )?;
+    writeln!(text, "|---|{}", "--:|".repeat(growth.points.len()))?;
+    writeln!(
+        text,
+        "| `feed` |{}",
+        cells(&|(_, times)| format!("{:.0}", times.proved))
+    )?;
+    writeln!(
+        text,
+        "| `feed_fast` |{}\n",
+        cells(&|(_, times)| format!("{:.0}", times.by_hand))
+    )
+}

@@ -1,0 +1,213 @@
+//! What is measured: sessions, each a policy, a script table, a state to start from, and records.
+
+use cases::labels::{ALL, OPEN_AT, PRESENT_AT, SCRIPT_BYTES, STATE_WORDS};
+use cases::policy::{document, policy_of, Style};
+use cases::record::{make_accepted, make_record};
+use cases::{state, Random, Setting};
+
+#[derive(Clone)]
+pub struct Session {
+    pub policy: Vec<u32>,
+    pub scripts: Vec<u8>,
+    pub state: Vec<u32>,
+    pub records: Vec<Vec<u8>>,
+}
+
+pub struct Workload {
+    pub name: &'static str,
+    pub sessions: Vec<Session>,
+    /// Whether the bar is set on it; the others tell what single calls cost.
+    pub barred: bool,
+}
+
+const SEED: u64 = 2026;
+const DENSE_POLICIES: usize = 16;
+const DENSE_RECORDS: usize = 64;
+
+pub fn all() -> Vec<Workload> {
+    let dense = dense(make_record);
+    let small = small_post();
+    let barred = |name, sessions| Workload {
+        name,
+        sessions,
+        barred: true,
+    };
+    let single = |name, sessions| Workload {
+        name,
+        sessions,
+        barred: false,
+    };
+    vec![
+        barred("policy P, a customer's session", vec![small.clone()]),
+        barred("dense policies, records of every kind", dense.clone()),
+        barred(
+            "dense policies, records that are accepted",
+            self::dense(make_accepted),
+        ),
+        barred(
+            "policy P, refused by its form (number 5)",
+            vec![with(&small, &[])],
+        ),
+        barred(
+            "dense policies, refused by their form (number 5)",
+            each_with(&dense, &[]),
+        ),
+        single(
+            "a load that carries eight cookies",
+            vec![with(&everything(), &[0x03, 0, 0])],
+        ),
+        single(
+            "everything open, refused by its form",
+            vec![with(&everything(), &[])],
+        ),
+        single(
+            "eight cookies and a script of 32 additions",
+            vec![response(ADDITIONS)],
+        ),
+        single(
+            "eight cookies and 32 reads and writes",
+            vec![response(COOKIES)],
+        ),
+        single(
+            "eight cookies and 32 requests: 1,184 bytes",
+            vec![response(REQUESTS)],
+        ),
+    ]
+}
+
+/// The same session, with one record fed again and again.
+pub fn with(session: &Session, record: &[u8]) -> Session {
+    Session {
+        records: vec![record.to_vec()],
+        ..session.clone()
+    }
+}
+
+fn each_with(sessions: &[Session], record: &[u8]) -> Vec<Session> {
+    sessions
+        .iter()
+        .map(|session| with(session, record))
+        .collect()
+}
+
+/// A card is topped up under document 01's policy P. Ten records are accepted, three are refused: 8, 7 and 5.
+pub fn small_post() -> Session {
+    let records: [&[u8]; 13] = [
+        &[0x03, 0, 0],                      // the page is loaded
+        &[0x0f, 0, 0, 0x01, 0, 0, 0, 7, 0], // its response brings a cookie, and runs a script
+        &[0x03, 0, 0],                      // loaded again, with the cookie
+        &[0x27, 0, 0, 0x01, 0, 0, 0, 9, 2], // a redirect to another host is turned away
+        &[0x0b, 0, 0, 1],                   // the response runs a script that counts
+        &[0x03, 1, 1],                      // a page of the caterer
+        &[0x23, 1, 1, 1],                   // is redirected to itself
+        &[0x0b, 1, 1, 2],                   // and its script asks for more
+        &[0x13, 1, 1, 0, 0, 0, 5],          // which arrives
+        &[0x03, 3, 3],                      // the plain page of the post
+        &[0x0b, 3, 3, 0],                   // with a script that ends at once
+        &[0x0b, 3, 3, 0],                   // again, though nothing is awaited
+        &[0x03, 0],                         // a torn record
+    ];
+    let mut scripts = vec![0; SCRIPT_BYTES];
+    set_script(
+        &mut scripts,
+        1,
+        &[
+            [1, 0, 0, 3],
+            [1, 1, 0, 4],
+            [2, 2, 0, 1],
+            [6, 3, 1, 0],
+            [1, 2, 0, 9],
+            [4, 1, 2, 0],
+        ],
+    );
+    set_script(&mut scripts, 2, &[[1, 0, 1, 0], [5, 1, 1, 3]]);
+    set_script(&mut scripts, 3, &[[6, 0, 2, 0], [2, 1, 0, 0], [4, 0, 1, 0]]);
+    Session {
+        policy: document(),
+        scripts,
+        state: vec![0; STATE_WORDS],
+        records: records.iter().map(|record| record.to_vec()).collect(),
+    }
+}
+
+fn set_script(scripts: &mut [u8], script: usize, steps: &[[u8; 4]]) {
+    scripts[128 * script..][..4 * steps.len()].copy_from_slice(steps.as_flattened());
+}
+
+type MakeRecord = fn(&Setting, &[u32], &mut Vec<u8>, &Random);
+
+/// Random policies with every URL and connection in use, and states with most cookies and connections.
+fn dense(make: MakeRecord) -> Vec<Session> {
+    (0..DENSE_POLICIES as u64)
+        .map(|case| dense_session(&Random::of_case(SEED, case), make))
+        .collect()
+}
+
+fn dense_session(random: &Random, make: MakeRecord) -> Session {
+    let setting = Setting::over(policy_of(Style::Dense, random), random);
+    let mut start = Vec::new();
+    state::make_sound(&setting, &mut start, random);
+    let mut now = start.clone();
+    let mut out = [0; cases::labels::OUT_BYTES];
+    let mut records = Vec::new();
+    for _ in 0..DENSE_RECORDS {
+        let mut record = Vec::new();
+        make(&setting, &now, &mut record, random);
+        reference::feed(
+            &setting.policy,
+            &setting.scripts,
+            &mut now,
+            &record,
+            &mut out,
+        );
+        records.push(record);
+    }
+    Session {
+        policy: setting.policy.clone(),
+        scripts: setting.scripts.clone(),
+        state: start,
+        records,
+    }
+}
+
+pub const REQUESTS: u8 = 0;
+pub const ADDITIONS: u8 = 1;
+const COOKIES: u8 = 2;
+
+/// Every URL, connection and cookie is there and open to all, every cookie is present, every connection awaits a document.
+pub fn everything() -> Session {
+    let mut policy = vec![ALL; cases::labels::POLICY_WORDS];
+    for (url, row) in policy[..cases::labels::COOKIES_AT]
+        .chunks_exact_mut(3)
+        .enumerate()
+    {
+        row[0] = url as u32 % 32;
+    }
+    let mut scripts = vec![0; SCRIPT_BYTES];
+    let requests: Vec<[u8; 4]> = (0..32).map(|at| [5, at, at, 15]).collect();
+    set_script(&mut scripts, REQUESTS as usize, &requests);
+    set_script(&mut scripts, ADDITIONS as usize, &[[2, 0, 1, 2]; 32]);
+    let cookies: Vec<[u8; 4]> = (0..32)
+        .map(|at| [3 + at % 2, at / 2 % 4, at / 2 % 4, 0])
+        .collect();
+    set_script(&mut scripts, COOKIES as usize, &cookies);
+    let mut state = vec![ALL; STATE_WORDS];
+    state[PRESENT_AT..OPEN_AT].fill(0xff);
+    for (connection, word) in state[OPEN_AT..].iter_mut().enumerate() {
+        *word = 0x0100_0000 | connection as u32;
+    }
+    Session {
+        policy,
+        scripts,
+        state,
+        records: Vec::new(),
+    }
+}
+
+/// A document's response on connection 0 that delivers every cookie and runs a script.
+fn response(script: u8) -> Session {
+    let mut record = vec![0x0f, 0, 0, 0xff];
+    record.extend([1; 32]);
+    record.push(script);
+    with(&everything(), &record)
+}

@@ -1,0 +1,209 @@
+//! A session monitor whose code is proved, for programs in Rust.
+//!
+//! The monitor stands between a web page and the network. It is fed one record at a time, keeps cookies and pending connections in a
+//! state that the caller lends, runs small scripts, and writes the requests that may go out. It has no memory of its own, allocates
+//! nothing, does not panic, and answers every content and every length: [`feed`] is the whole of it.
+//!
+//! A session starts from a state of zeros, and each record is fed with the state as the last call left it:
+//!
+//! ```
+//! use zolherima::{feed, Accepted, Refusal, NO_URL, OUT_BYTES, POLICY_WORDS, SCRIPT_BYTES, STATE_WORDS};
+//!
+//! // One URL, https at host 0 (endpoint 16). Who sees host 0 on the wire (endpoint 0) may learn of it; it may be shaped by itself.
+//! let mut policy = [0; POLICY_WORDS];
+//! for url in policy[..192].chunks_exact_mut(3) {
+//!     url.copy_from_slice(&NO_URL);
+//! }
+//! policy[..3].copy_from_slice(&[16, 0x0001_0001, 0x0001_0000]);
+//! // Connection 0: readers, readers of its scripts, writers.
+//! policy[448..451].copy_from_slice(&[0x0001_0001, 0x0001_0001, 0x0001_0000]);
+//! let scripts = [0; SCRIPT_BYTES];
+//!
+//! let mut state = [0; STATE_WORDS];
+//! let mut out = [0; OUT_BYTES];
+//!
+//! // A page asks for URL 0 on connection 0: a request goes out.
+//! let load = feed(&policy, &scripts, &mut state, &[0x03, 0, 0], &mut out);
+//! assert_eq!(load, Ok(Accepted { bytes: 3, steps: 0 }));
+//! assert_eq!(out[..3], [0x03, 0, 0]);
+//!
+//! // URL 1 is not in the policy: the record is refused, and nothing changes.
+//! let unknown = feed(&policy, &scripts, &mut state, &[0x03, 1, 0], &mut out);
+//! assert_eq!(unknown, Err(Refusal::NameUnknown));
+//! assert_eq!(unknown.unwrap_err().number(), 6);
+//! ```
+//!
+//! What the monitor promises about secrecy it promises for a session as a whole: the same policy and the same script table throughout, and
+//! a state that nobody else writes between calls.
+//!
+//! # Buffers
+//!
+//! | Buffer | Length | What |
+//! |---|---|---|
+//! | policy | [`POLICY_WORDS`] | words 0 to 191: 64 URLs of address, readers, writers ([`NO_URL`] where there is none); 192 to 447: readers and writers of the cookie of host h and key k, at 192 + 2 (8 h + k); 448 to 543: 32 connections of readers, script readers, writers |
+//! | script table | [`SCRIPT_BYTES`] | 16 scripts of 32 steps of 4 bytes: op, a, b, c |
+//! | state | [`STATE_WORDS`] | words 0 to 127: the values of cookies, at 8 h + k; 128 to 143: for each host, the keys present as bits 0 to 7; 144 to 175: connections, 0 where free, else kind << 24 \| origin << 16 \| handler << 8 \| URL |
+//! | output | [`OUT_BYTES`] or more | requests, one right after another |
+//!
+//! An address is an endpoint, 0 to 31: http at host a for a below 16, https at host a - 16 from there on. A set of endpoints is a
+//! word whose bit a stands for endpoint a. Records, requests and scripts are described in `include/monitor.h`.
+
+#![no_std]
+#![warn(missing_docs)]
+
+use core::fmt;
+
+/// Words of a policy.
+pub const POLICY_WORDS: usize = 544;
+/// Bytes of a script table.
+pub const SCRIPT_BYTES: usize = 2048;
+/// Words of a state.
+pub const STATE_WORDS: usize = 176;
+/// The least length of an output: room for 32 requests, the most that one record can send.
+pub const OUT_BYTES: usize = 1184;
+/// The longest record that is not malformed.
+pub const LONGEST_RECORD: usize = 40;
+/// The longest request.
+pub const LONGEST_REQUEST: usize = 37;
+/// The three words of a policy's URL that is not in use.
+pub const NO_URL: [u32; 3] = [255, 0, 0];
+
+/// What an accepted record did.
+#[derive(Clone, Copy, Debug, PartialEq, Eq, Hash)]
+pub struct Accepted {
+    /// How many bytes of the output were written, from its start: whole requests.
+    pub bytes: usize,
+    /// How many steps of a script ran, the one that ended it included; 0 where no script ran.
+    pub steps: u32,
+}
+
+/// Why a record was refused: the first of these that applies.
+#[derive(Clone, Copy, Debug, PartialEq, Eq, Hash)]
+#[repr(u32)]
+pub enum Refusal {
+    /// The output has fewer than [`OUT_BYTES`] bytes, however few this record needs.
+    OutputShort = 1,
+    /// The policy does not have [`POLICY_WORDS`] words, or is not well formed: a URL with an address above 31 or without its event
+    /// endpoint (http at its host) among its readers, or a connection with script readers that are not among its readers.
+    PolicyBad = 2,
+    /// The script table does not have [`SCRIPT_BYTES`] bytes.
+    ScriptsBad = 3,
+    /// The state does not have [`STATE_WORDS`] words, or is not sound: a value of a cookie that is not present, a key above 7, or a
+    /// connection that is none, names a URL that the policy does not have, or does not fit its URL. A state of zeros is sound, and a
+    /// state that is sound under a policy stays sound under it, whatever is fed.
+    StateUnsound = 4,
+    /// The record is malformed: no input map, cut short, too long, or cookies with an empty key map.
+    Malformed = 5,
+    /// The record names a URL or target that the policy does not have, a connection above 31 or a script above 15.
+    NameUnknown = 6,
+    /// A response or redirect on a connection that is free or holds another URL, or a response of the other kind.
+    NotAwaited = 7,
+    /// Readers forbid it: a load's connection has readers that the URL does not have; or a redirect's connection has readers that the
+    /// target does not have, or lacks the target's event endpoint.
+    ReadersForbid = 8,
+    /// Writers forbid it: the address of a load's URL or of a redirect's target is not among the connection's writers; or a redirect's
+    /// connection has writers that the target does not have.
+    WritersForbid = 9,
+}
+
+impl Refusal {
+    /// The refusals, by number from 1.
+    pub const ALL: [Refusal; 9] = [
+        Refusal::OutputShort,
+        Refusal::PolicyBad,
+        Refusal::ScriptsBad,
+        Refusal::StateUnsound,
+        Refusal::Malformed,
+        Refusal::NameUnknown,
+        Refusal::NotAwaited,
+        Refusal::ReadersForbid,
+        Refusal::WritersForbid,
+    ];
+
+    /// The number that C programs see.
+    pub const fn number(self) -> u32 {
+        self as u32
+    }
+}
+
+impl fmt::Display for Refusal {
+    fn fmt(&self, to: &mut fmt::Formatter<'_>) -> fmt::Result {
+        to.write_str(match self {
+            Refusal::OutputShort => "the output is too short",
+            Refusal::PolicyBad => "the policy has the wrong length or is not well formed",
+            Refusal::ScriptsBad => "the script table has the wrong length",
+            Refusal::StateUnsound => "the state has the wrong length or is not sound",
+            Refusal::Malformed => "the record is malformed",
+            Refusal::NameUnknown => {
+                "the record names a URL, connection or script that there is not"
+            }
+            Refusal::NotAwaited => "the connection does not await this record",
+            Refusal::ReadersForbid => "the readers of the connection and the URL forbid it",
+            Refusal::WritersForbid => "the writers of the connection and the URL forbid it",
+        })
+    }
+}
+
+impl core::error::Error for Refusal {}
+
+/// Feeds one record to the session whose state is lent.
+///
+/// Any contents and any lengths are allowed: whatever does not fit is refused. State and output change only where the record is accepted,
+/// and of the output only the first [`Accepted::bytes`] bytes; a refusal changes nothing.
+#[inline]
+pub fn feed(
+    policy: &[u32],
+    scripts: &[u8],
+    state: &mut [u32],
+    record: &[u8],
+    out: &mut [u8],
+) -> Result<Accepted, Refusal> {
+    // SAFETY: each pointer comes from a slice with its length: not null, aligned, and readable, for state and output also writable, for
+    // that many elements; the borrows keep everybody else away during the call. This is all that monitor.h asks.
+    let answer = unsafe {
+        c::monitor_feed(
+            policy.as_ptr(),
+            policy.len(),
+            scripts.as_ptr(),
+            scripts.len(),
+            state.as_mut_ptr(),
+            state.len(),
+            record.as_ptr(),
+            record.len(),
+            out.as_mut_ptr(),
+            out.len(),
+        )
+    };
+    match answer.number {
+        0 => Ok(Accepted {
+            bytes: answer.bytes as usize,
+            steps: answer.steps,
+        }),
+        number => Err(Refusal::ALL[number as usize - 1]),
+    }
+}
+
+/// What `include/monitor.h` declares.
+mod c {
+    #[repr(C)]
+    pub struct Answer {
+        pub number: u32,
+        pub bytes: u32,
+        pub steps: u32,
+    }
+
+    extern "C" {
+        pub fn monitor_feed(
+            policy: *const u32,
+            policy_words: usize,
+            scripts: *const u8,
+            script_bytes: usize,
+            state: *mut u32,
+            state_words: usize,
+            record: *const u8,
+            record_bytes: usize,
+            out: *mut u8,
+            out_bytes: usize,
+        ) -> Answer;
+    }
+}

@@ -1,0 +1,129 @@
+//! Document 01's small post through the binding: what is accepted, each refusal by its name, and lengths of every kind.
+
+use std::error::Error;
+
+use zolherima::{
+    feed, Accepted, Refusal, NO_URL, OUT_BYTES, POLICY_WORDS, SCRIPT_BYTES, STATE_WORDS,
+};
+
+const ALL: u32 = u32::MAX;
+
+struct Post {
+    policy: [u32; POLICY_WORDS],
+    scripts: [u8; SCRIPT_BYTES],
+    state: [u32; STATE_WORDS],
+    out: [u8; OUT_BYTES],
+}
+
+impl Post {
+    /// Policy P, no script that does anything, and the empty state.
+    fn new() -> Post {
+        let mut policy = [0; POLICY_WORDS];
+        for url in policy[..192].chunks_exact_mut(3) {
+            url.copy_from_slice(&NO_URL);
+        }
+        policy[..12].copy_from_slice(&[
+            16, 0x10001, 0x10000, 1, ALL, ALL, 17, ALL, 0x30000, 0, 0x10001, 0x10001,
+        ]);
+        policy[192..194].copy_from_slice(&[0x10000, 0x10000]);
+        policy[448..460].copy_from_slice(&[
+            0x10001, 0x10001, 0x10000, ALL, ALL, ALL, 0x10000, 0x10000, 0x10000, 0x10001, 0x10001,
+            0x10001,
+        ]);
+        Post {
+            policy,
+            scripts: [0; SCRIPT_BYTES],
+            state: [0; STATE_WORDS],
+            out: [0; OUT_BYTES],
+        }
+    }
+
+    fn feed(&mut self, record: &[u8]) -> Result<Accepted, Refusal> {
+        feed(
+            &self.policy,
+            &self.scripts,
+            &mut self.state,
+            record,
+            &mut self.out,
+        )
+    }
+
+    /// The requests that an accepted record sent.
+    fn sends(&mut self, record: &[u8]) -> Vec<u8> {
+        let accepted = self.feed(record).expect("the record is accepted");
+        self.out[..accepted.bytes].to_vec()
+    }
+}
+
+#[test]
+fn a_cookie_comes_with_a_response_and_goes_with_the_next_load() {
+    let mut post = Post::new();
+    assert_eq!(post.sends(&[0x03, 0, 0]), [0x03, 0, 0]);
+    let response = post.feed(&[0x0f, 0, 0, 0x01, 0, 0, 0, 7, 0]);
+    assert_eq!(response, Ok(Accepted { bytes: 0, steps: 1 }));
+    assert_eq!(post.sends(&[0x03, 0, 0]), [0x07, 0, 0, 0x01, 0, 0, 0, 7]);
+    assert_eq!(post.sends(&[0x03, 3, 3]), [0x03, 3, 3]);
+}
+
+#[test]
+fn records_are_refused_by_name_and_change_nothing() {
+    let refused: [(&[u8], Refusal); 6] = [
+        (&[], Refusal::Malformed),
+        (&[0x0f, 0, 0, 0, 0], Refusal::Malformed),
+        (&[0x03, 64, 0], Refusal::NameUnknown),
+        (&[0x0b, 0, 0, 0], Refusal::NotAwaited),
+        (&[0x03, 0, 1], Refusal::ReadersForbid),
+        (&[0x03, 3, 0], Refusal::WritersForbid),
+    ];
+    let mut post = Post::new();
+    for (record, refusal) in refused {
+        assert_eq!(post.feed(record), Err(refusal), "{record:02x?}");
+    }
+    assert_eq!(post.state, [0; STATE_WORDS]);
+    assert_eq!(post.out, [0; OUT_BYTES]);
+}
+
+#[test]
+fn buffers_are_refused_by_their_length() {
+    let Post {
+        policy,
+        scripts,
+        mut state,
+        mut out,
+    } = Post::new();
+    let load = [0x03, 0, 0];
+    let short = OUT_BYTES - 1;
+    assert_eq!(
+        feed(&policy, &scripts, &mut state, &load, &mut out[..short]),
+        Err(Refusal::OutputShort)
+    );
+    assert_eq!(
+        feed(&policy[1..], &scripts, &mut state, &load, &mut out),
+        Err(Refusal::PolicyBad)
+    );
+    assert_eq!(
+        feed(&policy, &scripts[1..], &mut state, &load, &mut out),
+        Err(Refusal::ScriptsBad)
+    );
+    assert_eq!(
+        feed(&policy, &scripts, &mut state[1..], &load, &mut out),
+        Err(Refusal::StateUnsound)
+    );
+    assert_eq!(
+        feed(&[], &[], &mut [], &[], &mut []),
+        Err(Refusal::OutputShort)
+    );
+    assert_eq!(
+        feed(&policy, &scripts, &mut [], &[], &mut out),
+        Err(Refusal::StateUnsound)
+    );
+}
+
+#[test]
+fn a_refusal_has_its_number_and_its_words() {
+    for (place, refusal) in Refusal::ALL.into_iter().enumerate() {
+        assert_eq!(refusal.number() as usize, place + 1);
+        let error: Box<dyn Error> = Box::new(refusal);
+        assert!(error.to_string().starts_with("the "), "{error}");
+    }
+}

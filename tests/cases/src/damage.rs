@@ -1,0 +1,128 @@
+//! Damage to what the monitor is lent beside the record: each clause of the refusals 1 to 4, and anything at random.
+
+use crate::labels::{
+    event_set, Pending, Url, CONNECTIONS, CONNECTIONS_AT, DOCUMENT, HOSTS, KEYS, NO_URL, OPEN_AT,
+    OUT_BYTES, PRESENT_AT, SCRIPT, SCRIPTS, STATE_WORDS, URLS,
+};
+use crate::random::Random;
+use crate::setting::Setting;
+
+/// Another length: none at all, one off, or anything up to twice as long.
+fn resize<T: Copy + Default>(list: &mut Vec<T>, random: &Random) {
+    let right = list.len();
+    let length = random.pick(&[0, 1, right - 1, right + 1, random.below(2 * right)]);
+    list.resize(length, T::default());
+}
+
+/// One bit of a word.
+fn bit(random: &Random) -> u32 {
+    1 << random.below(32)
+}
+
+/// Damages a policy of the right length; now and then it stays well formed.
+pub fn damage_policy(policy: &mut Vec<u32>, random: &Random) {
+    let url = 3 * random.below(URLS);
+    let connection = CONNECTIONS_AT + 3 * random.below(CONNECTIONS);
+    match random.below(8) {
+        0 | 1 => resize(policy, random),
+        2 => policy[url] = random.pick(&[32, 254, 255, 256, 0x8000_0000, random.word()]),
+        3 => remove_event(&mut policy[url..url + 3], random),
+        4 => leave_sets(&mut policy[url..url + 3], random),
+        5 => policy[connection + 1] |= bit(random),
+        6 => policy[random.pick(&[url, connection]) + random.below(3)] ^= bit(random),
+        _ => random.fill_words(policy),
+    }
+}
+
+fn remove_event(url: &mut [u32], random: &Random) {
+    url[0] %= 32;
+    url[1] = random.pick(&[url[1], u32::MAX]) & !event_set(url[0]);
+}
+
+/// No URL by its address, and yet with readers or writers.
+fn leave_sets(url: &mut [u32], random: &Random) {
+    url.copy_from_slice(&NO_URL);
+    url[1 + random.below(2)] = random.pick(&[bit(random), u32::MAX]);
+}
+
+pub fn damage_scripts(scripts: &mut Vec<u8>, random: &Random) {
+    resize(scripts, random);
+}
+
+/// Makes an output too short.
+pub fn damage_out(out: &mut Vec<u8>, random: &Random) {
+    out.truncate(random.pick(&[0, 1, OUT_BYTES - 1, OUT_BYTES - 1, random.below(OUT_BYTES)]));
+}
+
+/// Damages a sound state; now and then it stays sound.
+pub fn damage_state(setting: &Setting, state: &mut Vec<u32>, random: &Random) {
+    match random.below(10) {
+        0 => resize(state, random),
+        1 => state[PRESENT_AT + random.below(HOSTS)] |= 1 << random.within(8..=31),
+        2 => value_of_absent(state, random),
+        3 => state[random.below(STATE_WORDS)] = random.pick(&[bit(random), random.word()]),
+        4 => random.fill_words(state),
+        _ => damage_connection(setting, state, random),
+    }
+}
+
+fn value_of_absent(state: &mut [u32], random: &Random) {
+    let host = random.below(HOSTS);
+    let key = random.below(KEYS);
+    state[PRESENT_AT + host] &= !(1 << key);
+    state[KEYS * host + key] = random.pick(&[bit(random), random.word().max(1)]);
+}
+
+fn damage_connection(setting: &Setting, state: &mut [u32], random: &Random) {
+    let connection = setting.useful_connection(random);
+    let (kind, origin, handler) = random.pick(&[
+        (DOCUMENT, 0, 0),
+        (SCRIPT, setting.any_url(random), random.byte_below(16)),
+    ]);
+    let mut pending = Pending {
+        kind,
+        origin,
+        handler,
+        url: setting.fitting_url(connection, random),
+    };
+    let no_url = random.pick(&[URLS as u8, setting.no_url(random), 255, random.byte()]);
+    match random.below(8) {
+        0 => pending.kind = 0,
+        1 => pending.kind = random.pick(&[3, 4, 128, 255, random.byte()]),
+        2 => pending.origin = random.pick(&[1, setting.any_url(random), random.byte()]),
+        3 => pending.handler = random.pick(&[1, SCRIPTS as u8, random.byte()]),
+        4 => pending.origin = no_url,
+        5 => pending.url = no_url,
+        6 => pending.url = misfit(setting, connection, random),
+        _ => {
+            // Any connection, also one that fits nothing, at any URL.
+            let any = random.below(CONNECTIONS);
+            state[OPEN_AT + any] = pending.word();
+            return;
+        }
+    }
+    state[OPEN_AT + usize::from(connection)] = pending.word();
+}
+
+fn misfit(setting: &Setting, connection: u8, random: &Random) -> u8 {
+    let any = setting.any_url(random);
+    setting.misfit(connection, random).unwrap_or(any)
+}
+
+/// Takes readers from the URL that a connection holds, or the URL's message endpoint from the connection's writers: the policy stays well
+/// formed, but the connection no longer fits.
+pub fn estrange(policy: &mut [u32], state: &[u32], random: &Random) {
+    let connection = random.byte_below(CONNECTIONS as u8);
+    let url = Pending::of(state, connection).url;
+    if usize::from(url) >= URLS || !Url::of(policy, url).exists() {
+        return;
+    }
+    let at = 3 * usize::from(url);
+    let event = event_set(policy[at]);
+    let writers = CONNECTIONS_AT + 3 * usize::from(connection) + 2;
+    if random.one_in(2) {
+        policy[at + 1] = policy[at + 1] & random.word() | event;
+    } else {
+        policy[writers] &= !(1 << policy[at]);
+    }
+}

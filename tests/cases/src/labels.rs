@@ -1,0 +1,164 @@
+//! Where a policy and a state have what, and which labels allow what. The generator asks this to make calls that come far.
+
+pub const POLICY_WORDS: usize = 544;
+pub const SCRIPT_BYTES: usize = 2048;
+pub const STATE_WORDS: usize = 176;
+pub const OUT_BYTES: usize = 1184;
+
+pub const URLS: usize = 64;
+pub const HOSTS: usize = 16;
+pub const KEYS: usize = 8;
+pub const CONNECTIONS: usize = 32;
+pub const SCRIPTS: usize = 16;
+pub const STEPS: usize = 32;
+pub const STEP_BYTES: usize = 4;
+
+pub const NO_URL: [u32; 3] = [255, 0, 0];
+pub const ALL: u32 = u32::MAX;
+
+/// Where the cookies' labels and the connections start in a policy.
+pub const COOKIES_AT: usize = 3 * URLS;
+pub const CONNECTIONS_AT: usize = COOKIES_AT + 2 * HOSTS * KEYS;
+
+/// Where the key maps and the connections start in a state.
+pub const PRESENT_AT: usize = HOSTS * KEYS;
+pub const OPEN_AT: usize = PRESENT_AT + HOSTS;
+
+pub fn within(a: u32, b: u32) -> bool {
+    a & !b == 0
+}
+
+/// The event endpoint of an address, as a set: http at its host.
+pub fn event_set(address: u32) -> u32 {
+    1 << (address % HOSTS as u32)
+}
+
+#[derive(Clone, Copy)]
+pub struct Url {
+    pub address: u32,
+    pub readers: u32,
+    pub writers: u32,
+}
+
+impl Url {
+    pub fn of(policy: &[u32], url: u8) -> Url {
+        let at = 3 * usize::from(url);
+        Url {
+            address: policy[at],
+            readers: policy[at + 1],
+            writers: policy[at + 2],
+        }
+    }
+
+    pub fn exists(self) -> bool {
+        self.address < 32
+    }
+
+    pub fn host(self) -> usize {
+        self.address as usize % HOSTS
+    }
+
+    fn message(self) -> u32 {
+        1 << self.address
+    }
+
+    fn event(self) -> u32 {
+        event_set(self.address)
+    }
+}
+
+#[derive(Clone, Copy)]
+pub struct Cookie {
+    pub readers: u32,
+    pub writers: u32,
+}
+
+impl Cookie {
+    pub fn of(policy: &[u32], host: usize, key: u8) -> Cookie {
+        let at = COOKIES_AT + 2 * (KEYS * host + usize::from(key));
+        Cookie {
+            readers: policy[at],
+            writers: policy[at + 1],
+        }
+    }
+}
+
+#[derive(Clone, Copy)]
+pub struct Connection {
+    pub readers: u32,
+    pub script_readers: u32,
+    pub writers: u32,
+}
+
+impl Connection {
+    pub fn of(policy: &[u32], connection: u8) -> Connection {
+        let at = CONNECTIONS_AT + 3 * usize::from(connection);
+        Connection {
+            readers: policy[at],
+            script_readers: policy[at + 1],
+            writers: policy[at + 2],
+        }
+    }
+
+    pub fn fits(self, url: Url) -> bool {
+        url.exists() && within(self.readers, url.readers) && within(url.message(), self.writers)
+    }
+
+    pub fn redirects_to(self, target: Url) -> bool {
+        self.fits(target)
+            && within(target.event(), self.readers)
+            && within(self.writers, target.writers)
+    }
+
+    /// Whether a script of this connection may request `url` on `other`.
+    pub fn sends(self, url: Url, other: Connection) -> bool {
+        other.fits(url)
+            && within(url.event(), self.script_readers)
+            && within(other.readers, self.script_readers)
+            && within(self.writers, other.writers)
+            && within(self.writers, url.writers)
+    }
+
+    pub fn reads(self, cookie: Cookie) -> bool {
+        within(self.script_readers, cookie.readers) && within(cookie.writers, self.writers)
+    }
+
+    pub fn writes(self, cookie: Cookie) -> bool {
+        within(cookie.readers, self.script_readers) && within(self.writers, cookie.writers)
+    }
+}
+
+/// A connection's word of a state, taken apart.
+#[derive(Clone, Copy, PartialEq, Eq)]
+pub struct Pending {
+    pub kind: u8,
+    pub origin: u8,
+    pub handler: u8,
+    pub url: u8,
+}
+
+pub const DOCUMENT: u8 = 1;
+pub const SCRIPT: u8 = 2;
+
+impl Pending {
+    pub fn of(state: &[u32], connection: u8) -> Pending {
+        let [kind, origin, handler, url] = state[OPEN_AT + usize::from(connection)].to_be_bytes();
+        Pending {
+            kind,
+            origin,
+            handler,
+            url,
+        }
+    }
+
+    pub fn word(self) -> u32 {
+        u32::from_be_bytes([self.kind, self.origin, self.handler, self.url])
+    }
+}
+
+/// The connections of a state that are open, as a mask.
+pub fn open_connections(state: &[u32]) -> u64 {
+    (0..CONNECTIONS)
+        .filter(|&n| state[OPEN_AT + n] != 0)
+        .fold(0, |mask, n| mask | 1 << n)
+}

@@ -1,0 +1,21 @@
+//! Random calls of the monitor, for the tests and the benchmark: policies, script tables, states, records, and damage to each.
+//!
+//! Everything comes from a seed and from nothing else, so a case is found again by its seed and its number. What is made here is only
+//! input: no test takes an expected result from this crate. It knows the rules of labels all the same, since records made at random
+//! would nearly all be refused.
+
+pub mod call;
+pub mod damage;
+pub mod labels;
+pub mod plan;
+pub mod policy;
+pub mod random;
+pub mod record;
+pub mod scripts;
+pub mod setting;
+pub mod state;
+
+pub use call::Call;
+pub use plan::{Extent, Plan};
+pub use random::Random;
+pub use setting::Setting;

@@ -1,0 +1,261 @@
+//! Well formed policies of several styles. Labels drawn freely would hardly ever be within one another, so most styles draw their sets
+//! from a small pool and change one endpoint here and there: tests of subsets then succeed often, and often fail by a single endpoint.
+
+use crate::labels::{
+    event_set, ALL, CONNECTIONS, CONNECTIONS_AT, COOKIES_AT, HOSTS, KEYS, NO_URL, POLICY_WORDS,
+    URLS,
+};
+use crate::random::Random;
+
+#[derive(Clone, Copy, Debug, PartialEq, Eq)]
+pub enum Style {
+    /// Document 01's policy P.
+    Document,
+    /// Policy P with some words changed.
+    NearDocument,
+    /// A few hosts, URLs and connections, sets over the endpoints of these hosts.
+    Sparse,
+    /// Every URL and connection, sets that lack few endpoints or none.
+    Dense,
+    /// Sets from a chain, each within the next.
+    Chain,
+    /// Sets at random, with few or many endpoints.
+    Free,
+    /// No URL at all.
+    Bare,
+}
+
+const STYLES: [(usize, Style); 7] = [
+    (2, Style::Document),
+    (3, Style::NearDocument),
+    (8, Style::Sparse),
+    (10, Style::Dense),
+    (8, Style::Chain),
+    (3, Style::Free),
+    (1, Style::Bare),
+];
+
+pub fn random_policy(random: &Random) -> Vec<u32> {
+    let style = random.weighted(&STYLES);
+    policy_of(style, random)
+}
+
+pub fn policy_of(style: Style, random: &Random) -> Vec<u32> {
+    match style {
+        Style::Document => document(),
+        Style::NearDocument => near_document(random),
+        Style::Sparse => Outline::sparse(random).policy(random),
+        Style::Dense => Outline::dense(random).policy(random),
+        Style::Chain => Outline::chain(random).policy(random),
+        Style::Free => Outline::free(random).policy(random),
+        Style::Bare => Outline::bare(random).policy(random),
+    }
+}
+
+/// Document 01's policy P.
+pub fn document() -> Vec<u32> {
+    let mut policy = empty();
+    policy[..12].copy_from_slice(&[
+        16,
+        0x0001_0001,
+        0x0001_0000, //
+        1,
+        ALL,
+        ALL, //
+        17,
+        ALL,
+        0x0003_0000, //
+        0,
+        0x0001_0001,
+        0x0001_0001,
+    ]);
+    policy[COOKIES_AT..COOKIES_AT + 2].copy_from_slice(&[0x0001_0000, 0x0001_0000]);
+    policy[CONNECTIONS_AT..CONNECTIONS_AT + 12].copy_from_slice(&[
+        0x0001_0001,
+        0x0001_0001,
+        0x0001_0000, //
+        ALL,
+        ALL,
+        ALL, //
+        0x0001_0000,
+        0x0001_0000,
+        0x0001_0000, //
+        0x0001_0001,
+        0x0001_0001,
+        0x0001_0001,
+    ]);
+    policy
+}
+
+/// No URL, and every set empty.
+fn empty() -> Vec<u32> {
+    let mut policy = vec![0; POLICY_WORDS];
+    for url in policy[..COOKIES_AT].chunks_exact_mut(3) {
+        url.copy_from_slice(&NO_URL);
+    }
+    policy
+}
+
+fn near_document(random: &Random) -> Vec<u32> {
+    let mut policy = document();
+    let pool = [0, 0x0001_0000, 0x0001_0001, 0x0003_0003, ALL];
+    for _ in 0..random.within(1..=6) {
+        let at = random.pick(&[0, 3, 6, 9, CONNECTIONS_AT, CONNECTIONS_AT + 3]);
+        policy[at + random.within(1..=2)] = random.pick(&pool);
+        let cookie = COOKIES_AT + random.below(4 * KEYS);
+        policy[cookie] = random.pick(&pool);
+    }
+    well_formed(&mut policy);
+    policy
+}
+
+/// Adds or takes away what keeps a policy from being well formed.
+fn well_formed(policy: &mut [u32]) {
+    for url in policy[..COOKIES_AT].chunks_exact_mut(3) {
+        if url[0] < 32 {
+            url[1] |= event_set(url[0]);
+        }
+    }
+    for connection in policy[CONNECTIONS_AT..].chunks_exact_mut(3) {
+        connection[1] &= connection[0];
+    }
+}
+
+/// What the sets of a policy are drawn from, and how much of it is filled.
+struct Outline {
+    /// Each set is one of these, by chance with one endpoint changed.
+    pool: Vec<u32>,
+    /// One in so many sets has an endpoint changed.
+    change: usize,
+    hosts: Vec<u32>,
+    urls: usize,
+    connections: usize,
+}
+
+impl Outline {
+    fn sparse(random: &Random) -> Outline {
+        let hosts: Vec<u32> = (0..random.within(1..=3))
+            .map(|_| random.below(HOSTS) as u32)
+            .collect();
+        let endpoints = hosts.iter().fold(0, |set, host| set | 0x0001_0001 << host);
+        let mut pool = vec![endpoints, ALL];
+        for _ in 0..random.within(1..=3) {
+            pool.push(endpoints & random.word());
+        }
+        if random.one_in(3) {
+            pool.push(0);
+        }
+        Outline {
+            pool,
+            change: 24,
+            hosts,
+            urls: random.within(1..=8),
+            connections: random.within(1..=6),
+        }
+    }
+
+    fn dense(random: &Random) -> Outline {
+        let mut pool = vec![ALL; random.within(1..=4)];
+        for _ in 0..random.below(4) {
+            pool.push(lacking(ALL, random));
+        }
+        Outline {
+            pool,
+            change: random.within(8..=64),
+            hosts: all_hosts(),
+            urls: URLS,
+            connections: CONNECTIONS,
+        }
+    }
+
+    fn chain(random: &Random) -> Outline {
+        let mut pool = vec![ALL];
+        for _ in 0..random.within(1..=4) {
+            let last = pool[pool.len() - 1];
+            pool.push(last & (random.word() | random.word() | random.word()));
+        }
+        Outline {
+            pool,
+            change: random.within(8..=64),
+            hosts: all_hosts(),
+            urls: random.within(16..=URLS),
+            connections: random.within(8..=CONNECTIONS),
+        }
+    }
+
+    fn free(random: &Random) -> Outline {
+        let pool = (0..64)
+            .map(|_| match random.below(4) {
+                0 => random.word(),
+                1 => random.word() & random.word() & random.word(),
+                2 => random.word() | random.word() | random.word(),
+                _ => 1 << random.below(32),
+            })
+            .collect();
+        Outline {
+            pool,
+            change: 4,
+            hosts: all_hosts(),
+            urls: random.within(1..=URLS),
+            connections: random.within(1..=CONNECTIONS),
+        }
+    }
+
+    fn bare(random: &Random) -> Outline {
+        Outline {
+            urls: 0,
+            ..Outline::free(random)
+        }
+    }
+
+    fn set(&self, random: &Random) -> u32 {
+        let set = random.pick(&self.pool);
+        if random.one_in(self.change) {
+            set ^ 1 << random.below(32)
+        } else {
+            set
+        }
+    }
+
+    fn policy(&self, random: &Random) -> Vec<u32> {
+        let mut policy = empty();
+        for url in places(self.urls, URLS, random) {
+            self.fill_url(&mut policy[3 * url..3 * url + 3], random);
+        }
+        for set in &mut policy[COOKIES_AT..CONNECTIONS_AT] {
+            *set = self.set(random);
+        }
+        for connection in places(self.connections, CONNECTIONS, random) {
+            let at = CONNECTIONS_AT + 3 * connection;
+            for set in &mut policy[at..at + 3] {
+                *set = self.set(random);
+            }
+        }
+        well_formed(&mut policy);
+        policy
+    }
+
+    fn fill_url(&self, url: &mut [u32], random: &Random) {
+        url[0] = random.pick(&self.hosts) + 16 * random.below(2) as u32;
+        url[1] = self.set(random);
+        url[2] = self.set(random);
+    }
+}
+
+/// Every place, or so many at random, perhaps some of them twice.
+fn places(count: usize, of: usize, random: &Random) -> Vec<usize> {
+    if count == of {
+        (0..of).collect()
+    } else {
+        (0..count).map(|_| random.below(of)).collect()
+    }
+}
+
+fn all_hosts() -> Vec<u32> {
+    (0..HOSTS as u32).collect()
+}
+
+/// A set without one endpoint or two.
+fn lacking(set: u32, random: &Random) -> u32 {
+    set & !(1 << random.below(32)) & !(1 << random.below(32))
+}

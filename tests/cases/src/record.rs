@@ -1,0 +1,235 @@
+//! Records: those that a setting and a state accept, those that just miss, and those that are none.
+
+use crate::labels::{open_connections, Pending, CONNECTIONS, DOCUMENT, KEYS, SCRIPTS, URLS};
+use crate::random::Random;
+use crate::setting::Setting;
+
+pub const LOAD: u8 = 0x03;
+pub const DOCUMENT_RESPONSE: u8 = 0x0b;
+pub const SCRIPT_RESPONSE: u8 = 0x13;
+pub const REDIRECT: u8 = 0x23;
+
+/// The bit of a map that says that cookies follow.
+pub const COOKIES: u8 = 0x04;
+
+const INPUT_MAPS: [u8; 7] = [0x03, 0x0b, 0x0f, 0x13, 0x17, 0x23, 0x27];
+
+#[derive(Clone, Copy, Default)]
+struct Fields {
+    map: u8,
+    url: u8,
+    connection: u8,
+    keys: u8,
+    values: [u32; KEYS],
+    script: u8,
+    value: u32,
+    target: u8,
+}
+
+impl Fields {
+    /// The fields that the map carries, in the order of its bits.
+    fn write(&self, record: &mut Vec<u8>) {
+        record.clear();
+        record.push(self.map);
+        let carries = |bit: u8| self.map >> bit & 1 == 1;
+        if carries(0) {
+            record.push(self.url);
+        }
+        if carries(1) {
+            record.push(self.connection);
+        }
+        if carries(2) {
+            self.write_cookies(record);
+        }
+        if carries(3) {
+            record.push(self.script);
+        }
+        if carries(4) {
+            record.extend_from_slice(&self.value.to_be_bytes());
+        }
+        if carries(5) {
+            record.push(self.target);
+        }
+    }
+
+    fn write_cookies(&self, record: &mut Vec<u8>) {
+        record.push(self.keys);
+        for key in (0..KEYS).filter(|key| self.keys >> key & 1 == 1) {
+            record.extend_from_slice(&self.values[key].to_be_bytes());
+        }
+    }
+}
+
+/// What is done to a record that would be accepted.
+#[derive(Clone, Copy)]
+enum Twist {
+    Nothing,
+    /// A load of any URL on any connection.
+    AnyLoad,
+    /// A redirect to any URL.
+    AnyTarget,
+    BadName,
+    OtherUrl,
+    OtherConnection,
+    OtherKind,
+    /// The bytes no longer make a record, or another one.
+    Bytes,
+}
+
+const TWISTS: [(usize, Twist); 8] = [
+    (36, Twist::Nothing),
+    (5, Twist::AnyLoad),
+    (5, Twist::AnyTarget),
+    (5, Twist::BadName),
+    (3, Twist::OtherUrl),
+    (3, Twist::OtherConnection),
+    (3, Twist::OtherKind),
+    (6, Twist::Bytes),
+];
+
+/// Makes a record for a sound state: more than half of them are accepted where the policy lets anything be.
+pub fn make_record(setting: &Setting, state: &[u32], record: &mut Vec<u8>, random: &Random) {
+    let mut fields = accepted(setting, state, random);
+    let twist = random.weighted(&TWISTS);
+    twist_fields(twist, &mut fields, setting, random);
+    if random.one_in(32) {
+        // Two things at once, for which of them is answered.
+        let second = random.weighted(&TWISTS);
+        twist_fields(second, &mut fields, setting, random);
+    }
+    fields.write(record);
+    if matches!(twist, Twist::Bytes) {
+        twist_bytes(record, random);
+    }
+}
+
+/// A record that would be accepted, and nothing else: for long runs.
+pub fn make_accepted(setting: &Setting, state: &[u32], record: &mut Vec<u8>, random: &Random) {
+    accepted(setting, state, random).write(record);
+}
+
+fn accepted(setting: &Setting, state: &[u32], random: &Random) -> Fields {
+    let open = random.bit_of(open_connections(state));
+    match open {
+        Some(connection) if !random.one_in(4) => awaited(setting, state, connection, random),
+        _ => load(setting, random),
+    }
+}
+
+fn load(setting: &Setting, random: &Random) -> Fields {
+    let connection = setting.useful_connection(random);
+    Fields {
+        map: LOAD,
+        url: setting.fitting_url(connection, random),
+        connection,
+        ..Fields::default()
+    }
+}
+
+/// A response or a redirect on an open connection.
+fn awaited(setting: &Setting, state: &[u32], connection: u8, random: &Random) -> Fields {
+    let pending = Pending::of(state, connection);
+    let mut fields = Fields {
+        map: response_to(pending),
+        url: pending.url,
+        connection,
+        script: setting.script_at(pending.url, connection, random),
+        value: random.pick(&[0, 1, u32::MAX, random.word()]),
+        target: setting.target(connection, random),
+        ..Fields::default()
+    };
+    if random.one_in(3) {
+        fields.map = REDIRECT;
+    }
+    if random.one_in(2) {
+        fields.map |= COOKIES;
+        fields.keys = random.pick(&[0xff, random.byte().max(1), 1 << random.below(KEYS)]);
+        random.fill_words(&mut fields.values);
+        fields.values[random.below(KEYS)] = 0;
+    }
+    fields
+}
+
+fn response_to(pending: Pending) -> u8 {
+    if pending.kind == DOCUMENT {
+        DOCUMENT_RESPONSE
+    } else {
+        SCRIPT_RESPONSE
+    }
+}
+
+fn twist_fields(twist: Twist, fields: &mut Fields, setting: &Setting, random: &Random) {
+    match twist {
+        Twist::Nothing | Twist::Bytes => {}
+        Twist::AnyLoad => {
+            fields.map = LOAD;
+            fields.url = setting.any_url(random);
+            fields.connection = random.byte_below(CONNECTIONS as u8);
+        }
+        Twist::AnyTarget => {
+            fields.map = REDIRECT | fields.map & COOKIES;
+            fields.target = setting.any_url(random);
+        }
+        Twist::BadName => misname(fields, setting, random),
+        Twist::OtherUrl => fields.url = setting.any_url(random),
+        Twist::OtherConnection => fields.connection = random.byte_below(CONNECTIONS as u8),
+        Twist::OtherKind => {
+            let others = [DOCUMENT_RESPONSE, SCRIPT_RESPONSE, REDIRECT];
+            fields.map = random.pick(&others) | fields.map & COOKIES;
+        }
+    }
+}
+
+/// Names something that there is not, as near as it can be or far away.
+fn misname(fields: &mut Fields, setting: &Setting, random: &Random) {
+    let far = random.pick(&[255, random.byte() | 0x80]);
+    let no_url = random.pick(&[URLS as u8, setting.no_url(random), far]);
+    match random.below(4) {
+        0 => fields.url = no_url,
+        1 => fields.connection = random.pick(&[CONNECTIONS as u8, far]),
+        2 => fields.script = random.pick(&[SCRIPTS as u8, far]),
+        _ => fields.target = no_url,
+    }
+}
+
+fn twist_bytes(record: &mut Vec<u8>, random: &Random) {
+    match random.below(9) {
+        0 => record.clear(),
+        1 => record[0] = random.byte(),
+        2 => record[0] = random.pick(&INPUT_MAPS),
+        3 => record.truncate(random.below(record.len())),
+        4 => lengthen(record, 1, random),
+        5 => lengthen(record, random.within(1..=4), random),
+        6 => no_keys(record, random),
+        7 => {
+            record.clear();
+            let length = random.pick(&[random.below(48), random.below(256), random.below(2048)]);
+            lengthen(record, length, random);
+            if let (Some(map), true) = (record.first_mut(), random.one_in(2)) {
+                *map = random.pick(&INPUT_MAPS);
+            }
+        }
+        _ => {
+            // The longest that walk can tell, and what a count of eight bits would take for another length.
+            let length = random.pick(&[255, 256, record.len() + 256]);
+            lengthen(record, length - record.len(), random);
+        }
+    }
+}
+
+fn lengthen(record: &mut Vec<u8>, by: usize, random: &Random) {
+    let old = record.len();
+    record.resize(old + by, 0);
+    random.fill_bytes(&mut record[old..]);
+}
+
+/// A map with cookies, an empty key map, and what else the map asks for.
+fn no_keys(record: &mut Vec<u8>, random: &Random) {
+    let fields = Fields {
+        map: random.pick(&[DOCUMENT_RESPONSE, SCRIPT_RESPONSE, REDIRECT]) | COOKIES,
+        url: record[1],
+        connection: record[2],
+        ..Fields::default()
+    };
+    fields.write(record);
+}

@@ -1,0 +1,187 @@
+//! Script tables. A script is made for a home, a page and a connection to whose labels its steps keep, so that it runs for long; and has
+//! a step here and there that ends it.
+
+use crate::labels::{Connection, Cookie, Url, CONNECTIONS, KEYS, SCRIPTS, STEPS, STEP_BYTES};
+use crate::random::Random;
+use crate::setting::{Home, Setting};
+
+const END: u8 = 0;
+const CONSTANT: u8 = 1;
+const ADD: u8 = 2;
+const READ: u8 = 3;
+const WRITE: u8 = 4;
+const SEND: u8 = 5;
+const SKIP: u8 = 6;
+
+const REGISTERS: u8 = 4;
+
+#[derive(Clone, Copy)]
+enum Style {
+    /// Every step is 0: the script ends at once.
+    Zero,
+    Bytes,
+    /// Steps that are in range, and that the labels of the home allow.
+    Program,
+    /// A program with steps out of range, or that the labels may not allow.
+    Careless,
+    /// A request in each step.
+    Sends,
+    /// The same request in each step.
+    SameSend,
+}
+
+const STYLES: [(usize, Style); 6] = [
+    (1, Style::Zero),
+    (1, Style::Bytes),
+    (7, Style::Program),
+    (5, Style::Careless),
+    (2, Style::Sends),
+    (1, Style::SameSend),
+];
+
+const OPS: [(usize, u8); 6] = [
+    (2, CONSTANT),
+    (2, ADD),
+    (4, READ),
+    (4, WRITE),
+    (4, SEND),
+    (2, SKIP),
+];
+
+pub fn random_table(setting: &Setting, random: &Random) -> Vec<u8> {
+    let mut table = Vec::with_capacity(SCRIPTS * STEPS * STEP_BYTES);
+    for script in 0..SCRIPTS {
+        let composer = Composer {
+            setting,
+            home: setting.home(script as u8),
+        };
+        let style = random.weighted(&STYLES);
+        composer.write(style, &mut table, random);
+    }
+    table
+}
+
+struct Composer<'a> {
+    setting: &'a Setting,
+    home: Home,
+}
+
+impl Composer<'_> {
+    fn write(&self, style: Style, table: &mut Vec<u8>, random: &Random) {
+        let same = self.send(random);
+        for _ in 0..STEPS {
+            let step = match style {
+                Style::Zero => [0; STEP_BYTES],
+                Style::Bytes => random.word().to_le_bytes(),
+                Style::Program => self.kept(random),
+                Style::Careless => self.careless(random),
+                Style::Sends => self.send(random),
+                Style::SameSend => same,
+            };
+            table.extend_from_slice(&step);
+        }
+    }
+
+    fn careless(&self, random: &Random) -> [u8; STEP_BYTES] {
+        match random.below(24) {
+            0 | 1 => self.one_field_off(random),
+            2 => self.whatever(random),
+            3 => [END, random.byte(), random.byte(), random.byte()],
+            _ => self.kept(random),
+        }
+    }
+
+    /// A step that the home allows, where there is one. The fields that the op does not use are random: they are to be ignored.
+    fn kept(&self, random: &Random) -> [u8; STEP_BYTES] {
+        let op = random.weighted(&OPS);
+        let a = random.byte_below(REGISTERS);
+        match op {
+            CONSTANT => [op, a, random.byte(), random.byte()],
+            ADD => [
+                op,
+                a,
+                random.byte_below(REGISTERS),
+                random.byte_below(REGISTERS),
+            ],
+            READ => match self.key(random, Connection::reads) {
+                Some(key) => [op, a, key, random.byte()],
+                None => [CONSTANT, a, 0, 0],
+            },
+            WRITE => {
+                let key = self.key(random, Connection::writes);
+                let key = key.unwrap_or(random.byte_below(KEYS as u8));
+                [op, key, a, random.byte()]
+            }
+            SEND => self.send(random),
+            _ => [op, a, random.byte_below(6), random.byte()],
+        }
+    }
+
+    /// In range, but perhaps not allowed; a skip may go past the end.
+    fn whatever(&self, random: &Random) -> [u8; STEP_BYTES] {
+        let op = random.weighted(&OPS);
+        let register = random.byte_below(REGISTERS);
+        let key = random.byte_below(KEYS as u8);
+        match op {
+            READ => [op, register, key, random.byte()],
+            WRITE => [op, key, register, random.byte()],
+            SEND => self.other_send(random),
+            SKIP => [op, register, random.byte(), random.byte()],
+            _ => self.kept(random),
+        }
+    }
+
+    /// One of the four bytes is the first that is out of range, the last, or anything.
+    fn one_field_off(&self, random: &Random) -> [u8; STEP_BYTES] {
+        let mut step = self.kept(random);
+        let field = random.below(STEP_BYTES);
+        let first_bad = match (step[0], field) {
+            (_, 0) => SKIP + 1,
+            (WRITE, 1) | (READ, 2) => KEYS as u8,
+            (SEND, 1) => self.setting.no_url(random),
+            (SEND, 2) => CONNECTIONS as u8,
+            (SEND, 3) => SCRIPTS as u8,
+            _ => REGISTERS,
+        };
+        step[field] = random.pick(&[first_bad, first_bad, 255, random.byte()]);
+        step
+    }
+
+    /// A request that the home's labels allow, if one is found in a few draws.
+    fn send(&self, random: &Random) -> [u8; STEP_BYTES] {
+        let policy = &self.setting.policy;
+        let home = Connection::of(policy, self.home.connection);
+        let mut url = 0;
+        let mut connection = 0;
+        for _ in 0..8 {
+            connection = self.setting.useful_connection(random);
+            url = self.setting.fitting_url(connection, random);
+            if home.sends(Url::of(policy, url), Connection::of(policy, connection)) {
+                break;
+            }
+        }
+        [SEND, url, connection, random.byte_below(SCRIPTS as u8)]
+    }
+
+    /// A request that was allowed, to another URL or on another connection: often a single condition fails.
+    fn other_send(&self, random: &Random) -> [u8; STEP_BYTES] {
+        let mut step = self.send(random);
+        if random.one_in(2) {
+            step[1] = self.setting.any_url(random);
+        } else {
+            step[2] = random.byte_below(CONNECTIONS as u8);
+        }
+        step
+    }
+
+    /// A key of the page's host that the home may read or write.
+    fn key(&self, random: &Random, allowed: impl Fn(Connection, Cookie) -> bool) -> Option<u8> {
+        let policy = &self.setting.policy;
+        let home = Connection::of(policy, self.home.connection);
+        let host = Url::of(policy, self.home.url).host();
+        let keys = (0..KEYS as u8)
+            .filter(|&key| allowed(home, Cookie::of(policy, host, key)))
+            .fold(0, |mask, key| mask | 1 << key);
+        random.bit_of(keys)
+    }
+}

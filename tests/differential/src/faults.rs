@@ -1,0 +1,153 @@
+//! The test can fail: monitors with a single fault each are told from the reference, by the thing that the fault changes.
+
+use std::ops::BitXorAssign;
+
+use reference::Answer;
+
+use crate::case::play;
+use crate::checker::{Checker, Monitor};
+use crate::difference::Difference;
+use crate::guarded::{Buffers, Guarded};
+use crate::monitors;
+
+/// The first difference that a few cases find.
+fn first_difference(monitor: Monitor) -> Option<Difference> {
+    let mut checker = Checker::new(monitor);
+    (0..64).find_map(|case| {
+        let played = play(1, case, |_, call, random| checker.check(call, random));
+        played.err().map(|failure| failure.error)
+    })
+}
+
+fn honest(buffers: &mut Buffers) -> Answer {
+    reference::feed(
+        buffers.policy.inside(),
+        buffers.scripts.inside(),
+        buffers.state.inside_mut(),
+        buffers.record.inside(),
+        buffers.out.inside_mut(),
+    )
+}
+
+/// A monitor that gives another answer than it should.
+fn answering(change: fn(Answer) -> Answer) -> Monitor {
+    Box::new(move |buffers| change(honest(buffers)))
+}
+
+type Spoil = fn(Answer, &mut Buffers);
+
+/// A monitor that does what it should and then something more.
+fn spoiling(spoil: Spoil) -> Monitor {
+    Box::new(move |buffers| {
+        let answer = honest(buffers);
+        spoil(answer, buffers);
+        answer
+    })
+}
+
+fn assert_found(monitor: Monitor, what: &str) {
+    let found = first_difference(monitor).expect("the fault is found");
+    assert_eq!(format!("{}{}", found.part, found.what), what, "{found}");
+}
+
+fn flip<T: BitXorAssign + From<u8>>(element: Option<&mut T>) {
+    if let Some(element) = element {
+        *element ^= T::from(1);
+    }
+}
+
+fn flip_before<T: BitXorAssign + From<u8>>(buffer: &mut Guarded<T>) {
+    flip(buffer.whole[..buffer.start].last_mut());
+}
+
+fn flip_behind<T: BitXorAssign + From<u8>>(buffer: &mut Guarded<T>) {
+    flip(buffer.whole[buffer.end..].first_mut());
+}
+
+#[test]
+fn honest_monitors_are_passed() {
+    assert_eq!(first_difference(Box::new(honest)), None);
+    assert_eq!(first_difference(Box::new(monitors::library)), None);
+}
+
+#[test]
+fn a_wrong_answer_is_found() {
+    let number = answering(|answer| Answer {
+        number: answer.number.min(8),
+        ..answer
+    });
+    assert_found(number, "answer's number");
+    let bytes = answering(|answer| Answer {
+        bytes: answer.bytes.min(100),
+        ..answer
+    });
+    assert_found(bytes, "answer's bytes");
+    let steps = answering(|answer| Answer {
+        steps: answer.steps.min(31),
+        ..answer
+    });
+    assert_found(steps, "answer's steps");
+}
+
+#[test]
+fn one_bit_of_the_state_is_found() {
+    let accepted = spoiling(|answer, buffers| {
+        if answer.number == 0 {
+            flip(buffers.state.inside_mut().last_mut());
+        }
+    });
+    assert_found(accepted, "state");
+    let refused = spoiling(|answer, buffers| {
+        if answer.number == 4 {
+            flip(buffers.state.inside_mut().first_mut());
+        }
+    });
+    assert_found(refused, "state");
+}
+
+#[test]
+fn a_touched_output_is_found() {
+    let sent = spoiling(|answer, buffers| {
+        flip(buffers.out.inside_mut()[..answer.bytes as usize].last_mut());
+    });
+    assert_found(sent, "output");
+    let past = spoiling(|answer, buffers| {
+        flip(buffers.out.inside_mut()[answer.bytes as usize..].last_mut());
+    });
+    assert_found(past, "output");
+}
+
+#[test]
+fn a_touched_input_is_found() {
+    let policy = spoiling(|_, buffers| flip(buffers.policy.inside_mut().first_mut()));
+    assert_found(policy, "policy");
+    let scripts = spoiling(|_, buffers| flip(buffers.scripts.inside_mut().last_mut()));
+    assert_found(scripts, "script table");
+    let record = spoiling(|_, buffers| flip(buffers.record.inside_mut().last_mut()));
+    assert_found(record, "record");
+}
+
+#[test]
+fn a_broken_guard_is_found() {
+    let faults: [(Spoil, &str); 10] = [
+        (|_, b| flip_before(&mut b.policy), "guard before the policy"),
+        (|_, b| flip_behind(&mut b.policy), "guard behind the policy"),
+        (
+            |_, b| flip_before(&mut b.scripts),
+            "guard before the script table",
+        ),
+        (
+            |_, b| flip_behind(&mut b.scripts),
+            "guard behind the script table",
+        ),
+        (|_, b| flip_before(&mut b.state), "guard before the state"),
+        (|_, b| flip_behind(&mut b.state), "guard behind the state"),
+        (|_, b| flip_before(&mut b.record), "guard before the record"),
+        (|_, b| flip_behind(&mut b.record), "guard behind the record"),
+        (|_, b| flip_before(&mut b.out), "guard before the output"),
+        (|_, b| flip_behind(&mut b.out), "guard behind the output"),
+    ];
+    for (fault, what) in faults {
+        assert_found(spoiling(fault), what);
+    }
+}

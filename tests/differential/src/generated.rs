@@ -1,0 +1,55 @@
+//! What the generator calls well formed and sound is so by the reference, and everything comes from the seed.
+
+use cases::{Call, Random, Setting};
+use reference::Seen;
+
+use crate::case::play;
+use crate::guarded::Buffers;
+use crate::monitors;
+
+fn number_of(call: &Call, random: &Random) -> u32 {
+    let mut lent = Buffers::default();
+    lent.lay(call, random);
+    let mut own = lent.clone();
+    monitors::reference(&lent, &mut own, &mut Seen::new()).number
+}
+
+#[test]
+fn policies_are_well_formed_and_states_sound() {
+    for case in 0..400 {
+        let random = Random::of_case(1, case);
+        let setting = Setting::random(&random);
+        let mut call = Call {
+            policy: setting.policy.clone(),
+            scripts: setting.scripts.clone(),
+            out: vec![0; cases::labels::OUT_BYTES],
+            ..Call::default()
+        };
+        for _ in 0..20 {
+            cases::state::make_sound(&setting, &mut call.state, &random);
+            assert_eq!(
+                number_of(&call, &random),
+                5,
+                "the empty record, case {case}"
+            );
+        }
+    }
+}
+
+#[test]
+fn a_case_is_the_same_again() {
+    let calls = |seed, case| {
+        let mut calls = Vec::new();
+        let played = play(seed, case, |_, call, _| {
+            calls.push(format!("{call:?}"));
+            Ok::<(), ()>(())
+        });
+        assert!(played.is_ok());
+        calls
+    };
+    for case in 0..8 {
+        assert_eq!(calls(5, case), calls(5, case));
+        assert_ne!(calls(5, case), calls(6, case));
+        assert_ne!(calls(5, case), calls(5, case + 1));
+    }
+}

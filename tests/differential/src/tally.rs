@@ -1,0 +1,89 @@
+//! The counts of a test, and the table that it ends with.
+
+use reference::{Answer, Event, Seen};
+
+use crate::case::{Kind, Played};
+
+#[derive(Default)]
+pub struct Tally {
+    pub cases: u64,
+    pub calls: u64,
+    pub runs: u64,
+    pub run_records: u64,
+    pub numbers: [u64; 10],
+    pub most_bytes: u32,
+    pub most_steps: u32,
+}
+
+const MEANINGS: [&str; 10] = [
+    "accepted",
+    "output short",
+    "policy bad",
+    "scripts bad",
+    "state unsound",
+    "malformed",
+    "name unknown",
+    "not awaited",
+    "readers forbid",
+    "writers forbid",
+];
+
+impl Tally {
+    pub fn add_call(&mut self, answer: Answer) {
+        self.calls += 1;
+        self.numbers[answer.number as usize] += 1;
+        self.most_bytes = self.most_bytes.max(answer.bytes);
+        self.most_steps = self.most_steps.max(answer.steps);
+    }
+
+    pub fn add_case(&mut self, played: &Played) {
+        self.cases += 1;
+        if played.kind == Kind::Run {
+            self.runs += 1;
+            self.run_records += played.calls;
+        }
+    }
+
+    pub fn progress(&self, seconds: f64, seen: &Seen) -> String {
+        format!(
+            "{:.0} s: {} calls, {} runs, {:.0} calls per second, {} of {} events not seen yet",
+            seconds,
+            self.calls,
+            self.runs,
+            self.calls as f64 / seconds,
+            seen.missing().len(),
+            Event::ALL.len()
+        )
+    }
+
+    pub fn print(&self, seconds: f64, seen: &Seen) {
+        println!("cases            {:>12}", self.cases);
+        println!("calls            {:>12}", self.calls);
+        println!("calls per second {:>12.0}", self.calls as f64 / seconds);
+        println!("whole runs       {:>12}", self.runs);
+        println!("records in runs  {:>12}", self.run_records);
+        println!("most output bytes{:>12}", self.most_bytes);
+        println!("most steps       {:>12}", self.most_steps);
+        for (number, meaning) in MEANINGS.iter().enumerate() {
+            println!("{number} {meaning:<14} {:>12}", self.numbers[number]);
+        }
+        self.print_events(seen);
+    }
+
+    fn print_events(&self, seen: &Seen) {
+        let missing = seen.missing();
+        let all = Event::ALL.len();
+        println!("events seen      {:>5} of {all:>3}", all - missing.len());
+        let rarest = Event::ALL.iter().min_by_key(|event| seen.count(**event));
+        if let Some(rarest) = rarest {
+            println!(
+                "rarest           {:>12} times: {}",
+                seen.count(*rarest),
+                rarest.name()
+            );
+        }
+        for event in missing {
+            println!("never seen: {}", event.name());
+        }
+    }
+}

@@ -1,0 +1,216 @@
+//! The interpreter of scripts.
+
+use crate::layout::*;
+use crate::policy::{ConnectionTag, Policy, Url};
+use crate::request::write_request;
+use crate::seen::{Event, Seen};
+use crate::state::{Pending, State};
+
+/// One script at work.
+pub struct Interpreter<'a> {
+    pub policy: &'a Policy,
+    pub state: &'a mut State,
+    pub output: &'a mut Vec<u8>,
+    pub seen: &'a mut Seen,
+    /// The URL whose host's cookies the script works on.
+    pub page: usize,
+    /// The connection that the response came on.
+    pub connection: usize,
+    pub registers: [u32; REGISTERS],
+}
+
+/// The script ends here; the event says why.
+struct End(Event);
+
+/// How many of the steps that follow are skipped, or the end.
+type Outcome = Result<usize, End>;
+
+/// The number if it is below the limit, else the end.
+fn below(limit: usize, number: usize, event: Event) -> Result<usize, End> {
+    match number < limit {
+        true => Ok(number),
+        false => Err(End(event)),
+    }
+}
+
+/// Goes on only if allowed.
+fn require(allowed: bool, event: Event) -> Result<(), End> {
+    match allowed {
+        true => Ok(()),
+        false => Err(End(event)),
+    }
+}
+
+impl Interpreter<'_> {
+    /// Runs the script and counts every step met, the ending one included.
+    pub fn run(&mut self, script: &[u8]) -> u32 {
+        let mut steps = 0;
+        let mut next = 0;
+        let mut skipped = 0;
+        while next < STEPS {
+            let place = STEP_BYTES * next;
+            steps += 1;
+            match self.step(&script[place..place + STEP_BYTES]) {
+                Ok(skip) => skipped = skip,
+                Err(End(event)) => {
+                    self.seen.note(event);
+                    return steps;
+                }
+            }
+            next += 1 + skipped;
+        }
+        self.seen.note(match skipped {
+            0 => Event::EndRunsPast,
+            _ => Event::EndSkipsPast,
+        });
+        steps
+    }
+
+    /// One step: op, a, b, c.
+    fn step(&mut self, step: &[u8]) -> Outcome {
+        let [a, b, c] = [step[1], step[2], step[3]].map(usize::from);
+        match step[0] {
+            OP_END => Err(End(Event::EndStep)),
+            OP_SET => self.set(a, b, c),
+            OP_ADD => self.add(a, b, c),
+            OP_READ => self.read(a, b),
+            OP_WRITE => self.write(a, b),
+            OP_SEND => self.send(a, b, c),
+            OP_SKIP => self.skip(a, b),
+            _ => Err(End(Event::EndUnknown)),
+        }
+    }
+
+    /// Register a = 256 × b + c.
+    fn set(&mut self, a: usize, b: usize, c: usize) -> Outcome {
+        let a = below(REGISTERS, a, Event::EndSetRegister)?;
+        self.registers[a] = (256 * b + c) as u32;
+        self.seen.note(Event::StepSet);
+        Ok(0)
+    }
+
+    /// Register a = register b + register c, wrapping.
+    fn add(&mut self, a: usize, b: usize, c: usize) -> Outcome {
+        let a = below(REGISTERS, a, Event::EndAddTarget)?;
+        let b = below(REGISTERS, b, Event::EndAddLeft)?;
+        let c = below(REGISTERS, c, Event::EndAddRight)?;
+        let (sum, wraps) = self.registers[b].overflowing_add(self.registers[c]);
+        self.registers[a] = sum;
+        self.seen.note(match wraps {
+            true => Event::StepAddWraps,
+            false => Event::StepAdd,
+        });
+        Ok(0)
+    }
+
+    /// Register a = the page host's cookie b, allowed if the script readers
+    /// are within its readers and its writers within the connection's.
+    fn read(&mut self, a: usize, b: usize) -> Outcome {
+        let a = below(REGISTERS, a, Event::EndReadRegister)?;
+        let b = below(KEYS, b, Event::EndReadKey)?;
+        let own = self.own();
+        let cookie = self.policy.cookie(self.host(), b);
+        require(
+            own.script_readers.within(cookie.readers),
+            Event::EndReadReaders,
+        )?;
+        require(cookie.writers.within(own.writers), Event::EndReadWriters)?;
+        let value = self.state.cookie(self.host(), b);
+        self.registers[a] = value.ok_or(End(Event::EndReadAbsent))?;
+        self.seen.note(Event::StepRead);
+        Ok(0)
+    }
+
+    /// The page host's cookie a = register b, stored if its readers are
+    /// within the script readers and the connection's writers within its
+    /// writers. A write not allowed changes nothing.
+    fn write(&mut self, a: usize, b: usize) -> Outcome {
+        let a = below(KEYS, a, Event::EndWriteKey)?;
+        let b = below(REGISTERS, b, Event::EndWriteRegister)?;
+        let own = self.own();
+        let cookie = self.policy.cookie(self.host(), a);
+        self.seen
+            .note(if !cookie.readers.within(own.script_readers) {
+                Event::StepWriteReaders
+            } else if !own.writers.within(cookie.writers) {
+                Event::StepWriteWriters
+            } else {
+                self.state.store(self.host(), a, self.registers[b]);
+                Event::StepWrite
+            });
+        Ok(0)
+    }
+
+    /// Request URL a on connection b with handler c: opens b for a script,
+    /// with the page as origin, replacing what was there.
+    fn send(&mut self, a: usize, b: usize, c: usize) -> Outcome {
+        let a = below(URLS, a, Event::EndSendUrlAbove)?;
+        let url = self.policy.url(a).ok_or(End(Event::EndSendUrlEmpty))?;
+        let b = below(CONNECTIONS, b, Event::EndSendConnection)?;
+        let handler = below(SCRIPTS, c, Event::EndSendHandler)?;
+        check_send(self.own(), self.policy.connection(b), url)?;
+        self.note_send(b);
+        self.state.pending[b] = Pending::Script {
+            url: a,
+            origin: self.page,
+            handler,
+        };
+        write_request(self.policy, self.state, b, self.output, self.seen);
+        if self.output.len() == OUTPUT_BYTES {
+            self.seen.note(Event::FullOutput);
+        }
+        Ok(0)
+    }
+
+    /// If register a is 0, skip the b steps that follow.
+    fn skip(&mut self, a: usize, b: usize) -> Outcome {
+        let a = below(REGISTERS, a, Event::EndSkipRegister)?;
+        if self.registers[a] == 0 {
+            self.seen.note(Event::StepSkips);
+            Ok(b)
+        } else {
+            self.seen.note(Event::StepSkipsNot);
+            Ok(0)
+        }
+    }
+
+    /// The tag of the connection that the response came on.
+    fn own(&self) -> &ConnectionTag {
+        self.policy.connection(self.connection)
+    }
+
+    /// The page's host.
+    fn host(&self) -> usize {
+        let page = self.policy.url(self.page);
+        page.expect("a page is a URL").host()
+    }
+
+    fn note_send(&mut self, connection: usize) {
+        self.seen.note(Event::StepSend);
+        if self.state.pending[connection] != Pending::Free {
+            self.seen.note(Event::StepSendReplaces);
+        }
+        if connection == self.connection {
+            self.seen.note(Event::StepSendSame);
+        }
+    }
+}
+
+/// A send is allowed if: the URL's event endpoint is in the script readers;
+/// the other connection's readers are within the script readers; that
+/// connection fits the URL; the own writers are within that connection's
+/// writers and within the URL's writers.
+fn check_send(own: &ConnectionTag, other: &ConnectionTag, url: &Url) -> Result<(), End> {
+    require(
+        own.script_readers.holds(url.event_endpoint()),
+        Event::EndSendEvent,
+    )?;
+    require(
+        other.readers.within(own.script_readers),
+        Event::EndSendReaders,
+    )?;
+    require(other.readers_fit(url), Event::EndSendFitReaders)?;
+    require(other.writers_fit(url), Event::EndSendFitWriters)?;
+    require(own.writers.within(other.writers), Event::EndSendWriters)?;
+    require(own.writers.within(url.writers), Event::EndSendUrlWriters)
+}

@@ -1,0 +1,35 @@
+//! The monitor in plain Rust, written from document 01 alone.
+//!
+//! [`feed`] follows the document rule by rule. [`feed_fast`] gives the same
+//! results without allocation and is tuned for speed. [`walk`] is the
+//! program walk.
+
+#![forbid(unsafe_code)]
+
+mod endpoint;
+mod fast;
+mod interpreter;
+mod layout;
+mod monitor;
+mod policy;
+mod record;
+mod request;
+mod seen;
+mod state;
+mod walk;
+
+pub use fast::feed_fast;
+pub use monitor::{feed, feed_noting};
+pub use seen::{Event, Seen};
+pub use walk::walk;
+
+/// What the monitor answers to one record.
+#[derive(Debug, Clone, Copy, PartialEq, Eq)]
+pub struct Answer {
+    /// 0 when accepted, else the number of the refusal.
+    pub number: u32,
+    /// Output bytes written.
+    pub bytes: u32,
+    /// Script steps run.
+    pub steps: u32,
+}

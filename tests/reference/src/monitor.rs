@@ -1,0 +1,312 @@
+//! One record after another: refused by number, or carried out.
+
+use crate::interpreter::Interpreter;
+use crate::layout::*;
+use crate::policy::{ConnectionTag, Policy, Url};
+use crate::record::{self, Kind, Record};
+use crate::request::write_request;
+use crate::seen::{Event, Seen};
+use crate::state::{Pending, State};
+use crate::Answer;
+
+/// Feeds one record, as document 01 reads, rule by rule.
+pub fn feed(
+    policy: &[u32],
+    scripts: &[u8],
+    state: &mut [u32],
+    record: &[u8],
+    out: &mut [u8],
+) -> Answer {
+    feed_noting(policy, scripts, state, record, out, &mut Seen::new())
+}
+
+/// Feeds one record and notes what happened.
+pub fn feed_noting(
+    policy: &[u32],
+    scripts: &[u8],
+    state: &mut [u32],
+    record: &[u8],
+    out: &mut [u8],
+    seen: &mut Seen,
+) -> Answer {
+    match judge(policy, scripts, state, record, out) {
+        Err(refusal) => {
+            seen.note(refusal.clause);
+            Answer {
+                number: refusal.number,
+                bytes: 0,
+                steps: 0,
+            }
+        }
+        Ok(mut accepted) => {
+            let steps = accepted.carry_out(scripts, seen);
+            accepted.state.write(state);
+            out[..accepted.output.len()].copy_from_slice(&accepted.output);
+            Answer {
+                number: 0,
+                bytes: accepted.output.len() as u32,
+                steps,
+            }
+        }
+    }
+}
+
+/// A refusal: its number and the clause that applied.
+struct Refusal {
+    number: u32,
+    clause: Event,
+}
+
+/// Gives a clause its number.
+fn refuse(number: u32) -> impl Fn(Event) -> Refusal {
+    move |clause| Refusal { number, clause }
+}
+
+/// The monitor's numbers, first that applies.
+fn judge(
+    policy: &[u32],
+    scripts: &[u8],
+    state: &[u32],
+    record: &[u8],
+    out: &[u8],
+) -> Result<Accepted, Refusal> {
+    check_output(out).map_err(refuse(1))?;
+    let policy = Policy::read(policy).map_err(refuse(2))?;
+    check_scripts(scripts).map_err(refuse(3))?;
+    let state = State::read(state, &policy).map_err(refuse(4))?;
+    let record = record::read(record).map_err(refuse(5))?;
+    record::check_numbers(&record, &policy).map_err(refuse(6))?;
+    check_match(&record, &state).map_err(refuse(7))?;
+    check_readers(&record, &policy).map_err(refuse(8))?;
+    check_writers(&record, &policy).map_err(refuse(9))?;
+    Ok(Accepted {
+        policy,
+        state,
+        record,
+        output: Vec::new(),
+    })
+}
+
+/// The output buffer has at least 1,184 bytes, however few are needed.
+fn check_output(out: &[u8]) -> Result<(), Event> {
+    match out.len() < OUTPUT_BYTES {
+        true => Err(Event::OutputShort),
+        false => Ok(()),
+    }
+}
+
+/// The script table has 2,048 bytes.
+fn check_scripts(scripts: &[u8]) -> Result<(), Event> {
+    match scripts.len() != SCRIPTS_BYTES {
+        true => Err(Event::ScriptsLength),
+        false => Ok(()),
+    }
+}
+
+/// A response or redirect names a connection that holds its URL, and a
+/// response is of the connection's kind.
+fn check_match(record: &Record, state: &State) -> Result<(), Event> {
+    if record.kind == Kind::Load {
+        return Ok(());
+    }
+    let pending = state.pending[record.connection];
+    match pending {
+        Pending::Free => return Err(Event::MatchFree),
+        Pending::Document { url } | Pending::Script { url, .. } if url != record.url => {
+            return Err(Event::MatchOtherUrl)
+        }
+        _ => {}
+    }
+    match (record.kind, pending) {
+        (Kind::DocumentResponse { .. }, Pending::Script { .. }) => {
+            Err(Event::MatchDocumentOnScript)
+        }
+        (Kind::ScriptResponse { .. }, Pending::Document { .. }) => {
+            Err(Event::MatchScriptOnDocument)
+        }
+        _ => Ok(()),
+    }
+}
+
+/// A load's connection readers are within the URL's readers; a redirect
+/// target's event endpoint is in the connection's readers, and these are
+/// within the target's readers.
+fn check_readers(record: &Record, policy: &Policy) -> Result<(), Event> {
+    let tag = policy.connection(record.connection);
+    match record.kind {
+        Kind::Load if !tag.readers_fit(known_url(policy, record.url)) => Err(Event::ReadersLoad),
+        Kind::Redirect { target } => {
+            let target = known_url(policy, target);
+            if !tag.readers.holds(target.event_endpoint()) {
+                return Err(Event::ReadersRedirectEvent);
+            }
+            if !tag.readers_fit(target) {
+                return Err(Event::ReadersRedirect);
+            }
+            Ok(())
+        }
+        _ => Ok(()),
+    }
+}
+
+/// A load's message endpoint is in the connection's writers; so is a
+/// redirect target's, and the writers are within the target's writers.
+fn check_writers(record: &Record, policy: &Policy) -> Result<(), Event> {
+    let tag = policy.connection(record.connection);
+    match record.kind {
+        Kind::Load if !tag.writers_fit(known_url(policy, record.url)) => Err(Event::WritersLoad),
+        Kind::Redirect { target } => {
+            let target = known_url(policy, target);
+            if !tag.writers_fit(target) {
+                return Err(Event::WritersRedirectMessage);
+            }
+            if !tag.writers.within(target.writers) {
+                return Err(Event::WritersRedirect);
+            }
+            Ok(())
+        }
+        _ => Ok(()),
+    }
+}
+
+/// A URL whose number has been checked.
+fn known_url(policy: &Policy, number: usize) -> &Url {
+    policy.url(number).expect("the URL was checked")
+}
+
+/// A record that no number refuses, and what it works on.
+struct Accepted {
+    policy: Policy,
+    state: State,
+    record: Record,
+    output: Vec<u8>,
+}
+
+impl Accepted {
+    /// Does what the record does and gives the steps run.
+    fn carry_out(&mut self, scripts: &[u8], seen: &mut Seen) -> u32 {
+        self.note_kind(seen);
+        match self.record.kind {
+            Kind::Load => {
+                self.load(seen);
+                0
+            }
+            Kind::Redirect { target } => {
+                self.redirect(target, seen);
+                0
+            }
+            Kind::DocumentResponse { script } => {
+                let page = self.record.url;
+                self.respond(scripts, script, page, 0, seen)
+            }
+            Kind::ScriptResponse { value } => match self.state.pending[self.record.connection] {
+                Pending::Script {
+                    origin, handler, ..
+                } => self.respond(scripts, handler, origin, value, seen),
+                _ => unreachable!("the kind was matched"),
+            },
+        }
+    }
+
+    /// Load: the connection is opened as a document, replacing whatever was
+    /// pending; a request goes out.
+    fn load(&mut self, seen: &mut Seen) {
+        let number = self.record.connection;
+        if self.state.pending[number] != Pending::Free {
+            seen.note(Event::LoadReplaces);
+        }
+        let url = self.record.url;
+        self.state.pending[number] = Pending::Document { url };
+        self.request(seen);
+    }
+
+    /// Redirect: cookies are stored for the old URL's host, the connection
+    /// keeps kind, origin and handler and now holds the target; a request of
+    /// its kind goes out.
+    fn redirect(&mut self, target: usize, seen: &mut Seen) {
+        self.store_cookies(seen);
+        let pending = &mut self.state.pending[self.record.connection];
+        match pending {
+            Pending::Document { url } => {
+                *url = target;
+                seen.note(Event::RedirectDocument);
+            }
+            Pending::Script { url, .. } => {
+                *url = target;
+                seen.note(Event::RedirectScript);
+            }
+            Pending::Free => unreachable!("the connection was matched"),
+        }
+        self.request(seen);
+    }
+
+    /// Response: its cookies are stored, the connection is freed, then the
+    /// script runs with the value in register 0.
+    fn respond(
+        &mut self,
+        scripts: &[u8],
+        script: usize,
+        page: usize,
+        value: u32,
+        seen: &mut Seen,
+    ) -> u32 {
+        self.store_cookies(seen);
+        self.state.pending[self.record.connection] = Pending::Free;
+        let mut interpreter = Interpreter {
+            policy: &self.policy,
+            state: &mut self.state,
+            output: &mut self.output,
+            seen,
+            page,
+            connection: self.record.connection,
+            registers: [value, 0, 0, 0],
+        };
+        interpreter.run(&scripts[SCRIPT_BYTES * script..][..SCRIPT_BYTES])
+    }
+
+    /// Each delivered cookie belongs to the host of the record's URL. One
+    /// that may not be stored is passed over and the rest goes on.
+    fn store_cookies(&mut self, seen: &mut Seen) {
+        let host = known_url(&self.policy, self.record.url).host();
+        let tag = self.policy.connection(self.record.connection);
+        for &(key, value) in &self.record.cookies {
+            let event = judge_cookie(&self.policy, tag, host, key);
+            seen.note(event);
+            if event == Event::CookieStored {
+                self.state.store(host, key, value);
+            }
+        }
+    }
+
+    /// The request for what is pending on the record's connection.
+    fn request(&mut self, seen: &mut Seen) {
+        let number = self.record.connection;
+        write_request(&self.policy, &self.state, number, &mut self.output, seen);
+    }
+
+    fn note_kind(&self, seen: &mut Seen) {
+        let cookies = !self.record.cookies.is_empty();
+        seen.note(match (self.record.kind, cookies) {
+            (Kind::Load, _) => Event::Load,
+            (Kind::DocumentResponse { .. }, false) => Event::DocumentResponse,
+            (Kind::DocumentResponse { .. }, true) => Event::DocumentResponseCookies,
+            (Kind::ScriptResponse { .. }, false) => Event::ScriptResponse,
+            (Kind::ScriptResponse { .. }, true) => Event::ScriptResponseCookies,
+            (Kind::Redirect { .. }, false) => Event::Redirect,
+            (Kind::Redirect { .. }, true) => Event::RedirectCookies,
+        });
+    }
+}
+
+/// A delivered cookie is stored if its readers are within the connection's
+/// readers and the connection's writers within its writers.
+fn judge_cookie(policy: &Policy, tag: &ConnectionTag, host: usize, key: usize) -> Event {
+    let cookie = policy.cookie(host, key);
+    if !cookie.readers.within(tag.readers) {
+        return Event::CookiePassedReaders;
+    }
+    if !tag.writers.within(cookie.writers) {
+        return Event::CookiePassedWriters;
+    }
+    Event::CookieStored
+}

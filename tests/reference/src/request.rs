@@ -1,0 +1,60 @@
+//! Requests that go out.
+
+use crate::layout::*;
+use crate::policy::Policy;
+use crate::seen::{Event, Seen};
+use crate::state::{Pending, State};
+
+/// Appends the request for what is pending on the connection.
+pub fn write_request(
+    policy: &Policy,
+    state: &State,
+    connection: usize,
+    output: &mut Vec<u8>,
+    seen: &mut Seen,
+) {
+    let (map, number, handler) = match state.pending[connection] {
+        Pending::Document { url } => (MAP_DOCUMENT_REQUEST, url, None),
+        Pending::Script { url, handler, .. } => (MAP_SCRIPT_REQUEST, url, Some(handler)),
+        Pending::Free => unreachable!("a request has an open connection"),
+    };
+    let cookies = carried(policy, state, number, seen);
+    let numbers = [number as u8, connection as u8];
+    if cookies.is_empty() {
+        seen.note(Event::RequestPlain);
+        output.push(map);
+        output.extend(numbers);
+    } else {
+        seen.note(Event::RequestCookies);
+        output.push(map | BIT_COOKIES);
+        output.extend(numbers);
+        write_cookies(&cookies, output);
+    }
+    output.extend(handler.map(|handler| handler as u8));
+}
+
+/// A request carries every present cookie of the URL's host whose readers
+/// hold the URL's message endpoint.
+fn carried(policy: &Policy, state: &State, number: usize, seen: &mut Seen) -> Vec<(usize, u32)> {
+    let url = policy.url(number).expect("an open connection has a URL");
+    let mut cookies = Vec::new();
+    for key in 0..KEYS {
+        let tag = policy.cookie(url.host(), key);
+        match state.cookie(url.host(), key) {
+            None => seen.note(Event::NotCarriedAbsent),
+            Some(_) if !tag.readers.holds(url.message_endpoint()) => {
+                seen.note(Event::NotCarriedReaders)
+            }
+            Some(value) => cookies.push((key, value)),
+        }
+    }
+    cookies
+}
+
+/// A key map byte, then the values, most significant byte first.
+fn write_cookies(cookies: &[(usize, u32)], output: &mut Vec<u8>) {
+    output.push(cookies.iter().fold(0, |map, (key, _)| map | 1 << key));
+    for (_, value) in cookies {
+        output.extend(value.to_be_bytes());
+    }
+}

@@ -1,0 +1,174 @@
+//! What can happen while a record is fed, and counts of it.
+
+macro_rules! events {
+    ($($event:ident: $name:literal,)*) => {
+        /// One thing that can happen.
+        #[derive(Debug, Clone, Copy, PartialEq, Eq)]
+        pub enum Event {
+            $(#[doc = $name] $event,)*
+        }
+
+        impl Event {
+            /// Every event, in the order of declaration.
+            pub const ALL: [Event; [$(Event::$event),*].len()] = [$(Event::$event),*];
+
+            /// The event in plain English.
+            pub fn name(self) -> &'static str {
+                match self {
+                    $(Event::$event => $name,)*
+                }
+            }
+        }
+    };
+}
+
+events! {
+    OutputShort: "1: the output buffer is too short",
+
+    PolicyLength: "2: the policy has a wrong length",
+    PolicyAddress: "2: a row has an address that is neither 0 to 31 nor 255",
+    PolicyEmptyRowSets: "2: a row has address 255 but readers or writers that are not 0",
+    PolicyEventEndpoint: "2: a row's event endpoint is not among its readers",
+    PolicyScriptReaders: "2: a connection's script readers are not within its readers",
+
+    ScriptsLength: "3: the script table has a wrong length",
+
+    StateLength: "4: the state has a wrong length",
+    StatePresenceBit: "4: a presence bit above 7 is set",
+    StateAbsentValue: "4: an absent cookie's value is not 0",
+    StateFreeWord: "4: a free connection's word is not 0",
+    StateKind: "4: a connection's kind is above 2",
+    StateDocumentOrigin: "4: a document has an origin that is not 0",
+    StateDocumentHandler: "4: a document has a handler that is not 0",
+    StateUrlAbove: "4: an open connection's URL is above 63",
+    StateUrlEmpty: "4: an open connection's URL is an empty row",
+    StateUrlReaders: "4: an open connection's readers are not within its URL's readers",
+    StateUrlWriters: "4: an open connection's writers do not hold its URL's message endpoint",
+    StateHandler: "4: a script request's handler is above 15",
+    StateOriginAbove: "4: a script request's origin is above 63",
+    StateOriginEmpty: "4: a script request's origin is an empty row",
+
+    RecordEmpty: "5: the record is empty",
+    RecordMap: "5: the map is no input map",
+    RecordCutShort: "5: the record is cut short",
+    RecordTrailing: "5: the record has trailing bytes",
+    RecordNoKeys: "5: the key map is 0",
+
+    NumberUrlAbove: "6: the URL is above 63",
+    NumberUrlEmpty: "6: the URL is an empty row",
+    NumberTargetAbove: "6: the target is above 63",
+    NumberTargetEmpty: "6: the target is an empty row",
+    NumberConnection: "6: the connection is above 31",
+    NumberScript: "6: the script is above 15",
+
+    MatchFree: "7: the connection is free",
+    MatchOtherUrl: "7: the connection holds another URL",
+    MatchDocumentOnScript: "7: a document response on a script's request",
+    MatchScriptOnDocument: "7: a script response on a document",
+
+    ReadersLoad: "8: a load's connection readers are not within the URL's readers",
+    ReadersRedirectEvent: "8: a redirect target's event endpoint is not in the connection's readers",
+    ReadersRedirect: "8: the connection's readers are not within a redirect target's readers",
+
+    WritersLoad: "9: a load's message endpoint is not in the connection's writers",
+    WritersRedirectMessage: "9: a redirect target's message endpoint is not in the connection's writers",
+    WritersRedirect: "9: the connection's writers are not within a redirect target's writers",
+
+    Load: "a load is accepted",
+    DocumentResponse: "a document response without cookies is accepted",
+    DocumentResponseCookies: "a document response with cookies is accepted",
+    ScriptResponse: "a script response without cookies is accepted",
+    ScriptResponseCookies: "a script response with cookies is accepted",
+    Redirect: "a redirect without cookies is accepted",
+    RedirectCookies: "a redirect with cookies is accepted",
+    RedirectDocument: "a redirect of a document is accepted",
+    RedirectScript: "a redirect of a script's request is accepted",
+    LoadReplaces: "a load replaces what was pending on its connection",
+
+    CookieStored: "a delivered cookie is stored",
+    CookiePassedReaders: "a delivered cookie is passed over because of readers",
+    CookiePassedWriters: "a delivered cookie is passed over because of writers",
+
+    RequestPlain: "a request goes out without cookies",
+    RequestCookies: "a request goes out with cookies",
+    NotCarriedAbsent: "a cookie is not carried because it is absent",
+    NotCarriedReaders: "a cookie is not carried because its readers do not hold the message endpoint",
+    FullOutput: "the output has the full 1184 bytes",
+
+    StepSet: "a script sets a register",
+    StepAdd: "a script adds without wrapping",
+    StepAddWraps: "a script adds and wraps",
+    StepRead: "a script reads a cookie",
+    StepWrite: "a script writes a cookie",
+    StepWriteReaders: "a write is not allowed because of readers and the script goes on",
+    StepWriteWriters: "a write is not allowed because of writers and the script goes on",
+    StepSend: "a script sends a request",
+    StepSendReplaces: "a script's send replaces what was pending on its connection",
+    StepSendSame: "a script sends on the connection that the response came on",
+    StepSkips: "a script skips since the register is 0",
+    StepSkipsNot: "a script does not skip since the register is not 0",
+
+    EndStep: "a script ends at step 0",
+    EndUnknown: "a script ends at an unknown op",
+    EndSetRegister: "a script ends at a set to a register above 3",
+    EndAddTarget: "a script ends at an addition to a register above 3",
+    EndAddLeft: "a script ends at an addition whose first register is above 3",
+    EndAddRight: "a script ends at an addition whose second register is above 3",
+    EndReadRegister: "a script ends at a read into a register above 3",
+    EndReadKey: "a script ends at a read of a key above 7",
+    EndReadReaders: "a script ends at a read not allowed because of readers",
+    EndReadWriters: "a script ends at a read not allowed because of writers",
+    EndReadAbsent: "a script ends at a read of an absent cookie",
+    EndWriteKey: "a script ends at a write of a key above 7",
+    EndWriteRegister: "a script ends at a write from a register above 3",
+    EndSendUrlAbove: "a script ends at a send to a URL above 63",
+    EndSendUrlEmpty: "a script ends at a send to an empty row",
+    EndSendConnection: "a script ends at a send on a connection above 31",
+    EndSendHandler: "a script ends at a send with a handler above 15",
+    EndSendEvent: "a script ends at a send: the event endpoint is not in the script readers",
+    EndSendReaders: "a script ends at a send: the connection's readers are not within the script readers",
+    EndSendFitReaders: "a script ends at a send: the connection's readers are not within the URL's",
+    EndSendFitWriters: "a script ends at a send: the message endpoint is not in the connection's writers",
+    EndSendWriters: "a script ends at a send: its writers are not within the connection's writers",
+    EndSendUrlWriters: "a script ends at a send: its writers are not within the URL's writers",
+    EndSkipRegister: "a script ends at a skip on a register above 3",
+    EndRunsPast: "a script runs past step 31",
+    EndSkipsPast: "a script skips past step 31",
+}
+
+/// How often each event occurred.
+#[derive(Debug, Clone, PartialEq, Eq)]
+pub struct Seen {
+    counts: [u64; Event::ALL.len()],
+}
+
+impl Seen {
+    /// Nothing has occurred.
+    pub fn new() -> Seen {
+        Seen {
+            counts: [0; Event::ALL.len()],
+        }
+    }
+
+    /// The event occurred once more.
+    pub fn note(&mut self, event: Event) {
+        self.counts[event as usize] += 1;
+    }
+
+    /// How often the event occurred.
+    pub fn count(&self, event: Event) -> u64 {
+        self.counts[event as usize]
+    }
+
+    /// The events that never occurred.
+    pub fn missing(&self) -> Vec<Event> {
+        let never = |event: &Event| self.count(*event) == 0;
+        Event::ALL.into_iter().filter(never).collect()
+    }
+}
+
+impl Default for Seen {
+    fn default() -> Seen {
+        Seen::new()
+    }
+}

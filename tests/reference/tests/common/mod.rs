@@ -1,0 +1,69 @@
+//! A session to feed, under document 01's small policy P.
+
+use cases::policy::document;
+use reference::Answer;
+
+/// Any of the feeding functions.
+pub type Feed = fn(&[u32], &[u8], &mut [u32], &[u8], &mut [u8]) -> Answer;
+
+/// Every feeding function, by name.
+pub const FEEDS: [(&str, Feed); 2] = [
+    ("feed", reference::feed),
+    ("feed_fast", reference::feed_fast),
+];
+
+/// A run of records from the empty state.
+pub struct Session {
+    pub feed: Feed,
+    pub policy: Vec<u32>,
+    pub scripts: Vec<u8>,
+    pub state: Vec<u32>,
+}
+
+impl Session {
+    /// Policy P, a zero script table, the empty state.
+    pub fn new(feed: Feed) -> Session {
+        Session {
+            feed,
+            policy: document(),
+            scripts: vec![0; 2048],
+            state: vec![0; 176],
+        }
+    }
+
+    /// Feeds a record; number, output and steps. Checks what holds of every
+    /// answer: a refusal changes nothing, bytes past the output stay.
+    pub fn feed(&mut self, record: &[u8]) -> (u32, Vec<u8>, u32) {
+        let mut out = vec![0xA5; 1200];
+        let before = self.state.clone();
+        let answer = (self.feed)(
+            &self.policy,
+            &self.scripts,
+            &mut self.state,
+            record,
+            &mut out,
+        );
+        let length = answer.bytes as usize;
+        assert!(out[length..].iter().all(|&byte| byte == 0xA5));
+        if answer.number != 0 {
+            assert_eq!((answer.bytes, answer.steps), (0, 0));
+            assert_eq!(self.state, before);
+        }
+        out.truncate(length);
+        (answer.number, out, answer.steps)
+    }
+
+    /// Feeds a record that is accepted; its output and steps.
+    pub fn accept(&mut self, record: &[u8]) -> (Vec<u8>, u32) {
+        let (number, out, steps) = self.feed(record);
+        assert_eq!(number, 0);
+        (out, steps)
+    }
+
+    /// Feeds a record that is refused; the number.
+    pub fn refuse(&mut self, record: &[u8]) -> u32 {
+        let (number, _, _) = self.feed(record);
+        assert_ne!(number, 0);
+        number
+    }
+}

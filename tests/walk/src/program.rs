@@ -1,0 +1,106 @@
+//! Runs the program under test on one input.
+
+use std::fs::{self, File};
+use std::io::{self, Read, Write};
+use std::path::Path;
+use std::process::{Child, Command, ExitStatus, Stdio};
+use std::sync::mpsc;
+use std::thread;
+use std::time::Duration;
+
+use cases::Random;
+
+/// A program that is not done after so long is taken to hang.
+const PATIENCE: Duration = Duration::from_secs(60);
+
+pub struct Ran {
+    pub stdout: Vec<u8>,
+    pub stderr: Vec<u8>,
+    pub status: ExitStatus,
+}
+
+/// How the input reaches the program.
+#[derive(Clone, Copy)]
+pub enum Arrival {
+    File,
+    /// A pipe that is written in pieces of at most so many bytes, which the seed gives.
+    Pipe {
+        most: usize,
+        seed: u64,
+    },
+}
+
+impl Arrival {
+    pub fn random(random: &Random) -> Arrival {
+        let seed = random.bits();
+        match random.pick(&[0, 300, 4096, 1 << 20]) {
+            0 => Arrival::File,
+            most => Arrival::Pipe { most, seed },
+        }
+    }
+}
+
+/// Runs `program` on `input`. `file` is where the input is put if it arrives as a file.
+pub fn run(program: &Path, input: &[u8], arrival: Arrival, file: &Path) -> io::Result<Ran> {
+    let mut command = Command::new(program);
+    command.stdout(Stdio::piped()).stderr(Stdio::piped());
+    match arrival {
+        Arrival::File => {
+            fs::write(file, input)?;
+            collect(&mut command.stdin(File::open(file)?).spawn()?)
+        }
+        Arrival::Pipe { most, seed } => {
+            let mut child = command.stdin(Stdio::piped()).spawn()?;
+            let pipe = child.stdin.take();
+            thread::scope(|scope| {
+                scope.spawn(move || write_pieces(pipe, input, most, &Random::new(seed)));
+                collect(&mut child)
+            })
+        }
+    }
+}
+
+/// Writes until all is written or the program reads no more, as it does where the input is too long.
+fn write_pieces(pipe: Option<impl Write>, input: &[u8], most: usize, random: &Random) {
+    let Some(mut pipe) = pipe else { return };
+    let mut left = input;
+    while !left.is_empty() {
+        let piece = random.within(1..=most).min(left.len());
+        if pipe.write_all(&left[..piece]).is_err() {
+            return;
+        }
+        left = &left[piece..];
+    }
+}
+
+/// Reads both outputs to their ends; a program that hangs is stopped and found by its status.
+fn collect(child: &mut Child) -> io::Result<Ran> {
+    let stdout = child.stdout.take();
+    let stderr = child.stderr.take();
+    let (done, wait) = mpsc::channel();
+    thread::scope(|scope| {
+        let stdout = scope.spawn(move || {
+            let read = read_all(stdout);
+            // The receiver is there until this is received or the program is stopped.
+            let _ = done.send(());
+            read
+        });
+        let stderr = scope.spawn(move || read_all(stderr));
+        if wait.recv_timeout(PATIENCE).is_err() {
+            child.kill()?;
+        }
+        Ok(Ran {
+            stdout: stdout.join().expect("reading does not panic")?,
+            stderr: stderr.join().expect("reading does not panic")?,
+            status: child.wait()?,
+        })
+    })
+}
+
+fn read_all(from: Option<impl Read>) -> io::Result<Vec<u8>> {
+    let mut bytes = Vec::new();
+    if let Some(mut from) = from {
+        from.read_to_end(&mut bytes)?;
+    }
+    Ok(bytes)
+}
