@@ -1,0 +1,131 @@
+/* Links libmonitor.a: how much stack one call takes. The call runs on a stack of its own that was painted before, so that what it wrote is
+ * seen afterwards; the same call of a function that does nothing is taken off. Printed for the calls that could take most: the largest
+ * output, the longest script, everything that is refused; and bounded, so that it is seen where it grows. */
+#define _XOPEN_SOURCE 700
+#include <stdbool.h>
+#include <stdio.h>
+#include <stdlib.h>
+#include <string.h>
+#include <ucontext.h>
+
+#include "monitor.h"
+
+enum { STACK_BYTES = 65536, PAINT = 0x5a, MOST = 1024, SENDS = 0, REGISTERS = 1, WRITES = 2 };
+
+typedef struct monitor_answer feeds(const uint32_t *, size_t, const uint8_t *, size_t, uint32_t *, size_t, const uint8_t *, size_t, uint8_t *, size_t);
+
+static uint8_t stack[STACK_BYTES];
+static ucontext_t here, there;
+static feeds *function;
+static uint32_t policy[MONITOR_POLICY_WORDS], state[MONITOR_STATE_WORDS];
+static uint8_t scripts[MONITOR_SCRIPT_BYTES], out[MONITOR_OUT_BYTES], record[MONITOR_LONGEST_RECORD];
+static size_t state_words, record_bytes, out_bytes;
+static struct monitor_answer answer;
+
+static struct monitor_answer nothing(const uint32_t *p, size_t pn, const uint8_t *c, size_t cn, uint32_t *s, size_t sn, const uint8_t *r, size_t rn,
+                                     uint8_t *o, size_t on)
+{
+    (void)p, (void)pn, (void)c, (void)cn, (void)s, (void)sn, (void)r, (void)rn, (void)o, (void)on;
+    return (struct monitor_answer){0, 0, 0};
+}
+
+static void call(void)
+{
+    answer = function(policy, MONITOR_POLICY_WORDS, scripts, sizeof scripts, state, state_words, record, record_bytes, out, out_bytes);
+}
+
+/* The bytes of the painted stack that the call wrote, or that lie above one that it wrote. */
+static size_t depth(feeds *called)
+{
+    memset(stack, PAINT, sizeof stack);
+    function = called;
+    if (getcontext(&there) != 0) {
+        abort();
+    }
+    there.uc_stack.ss_sp = stack;
+    there.uc_stack.ss_size = sizeof stack;
+    there.uc_link = &here;
+    makecontext(&there, call, 0);
+    if (swapcontext(&here, &there) != 0) {
+        abort();
+    }
+    size_t untouched = 0;
+    while (untouched < sizeof stack && stack[untouched] == PAINT) {
+        untouched++;
+    }
+    return sizeof stack - untouched;
+}
+
+static void step(size_t script, size_t at, uint8_t op, uint8_t a, uint8_t b, uint8_t c)
+{
+    const uint8_t bytes[4] = {op, a, b, c};
+    memcpy(scripts + 128 * script + 4 * at, bytes, sizeof bytes);
+}
+
+/* Every URL, connection and cookie is there and open to all, every cookie is present, every connection awaits a document. */
+static void everything(void)
+{
+    memset(policy, 0xff, sizeof policy);
+    for (uint32_t url = 0; url < 64; url++) {
+        policy[3 * url] = url % 32;
+    }
+    for (uint32_t i = 0; i < MONITOR_STATE_WORDS; i++) {
+        state[i] = i < 128 ? 0xffffffffu : i < 144 ? 0xffu : 0x01000000u | (i - 144);
+    }
+    for (uint8_t at = 0; at < 32; at++) {
+        step(SENDS, at, 5, at, at, 15);
+        step(REGISTERS, at, 2, at % 4, 3, 3);
+        step(WRITES, at, at % 2 == 0 ? 3 : 4, at % 4, at % 4, 0);
+    }
+    state_words = MONITOR_STATE_WORDS;
+    out_bytes = sizeof out;
+}
+
+/* A document's response on connection 0 with every cookie, which runs a script. */
+static void respond(uint8_t script)
+{
+    everything();
+    memset(record, 0xff, sizeof record);
+    const uint8_t front[4] = {0x0f, 0, 0, 0xff};
+    memcpy(record, front, sizeof front);
+    record[36] = script;
+    record_bytes = 37;
+}
+
+static void measure(const char *name, uint32_t number, uint32_t bytes, uint32_t steps)
+{
+    size_t around = depth(nothing);
+    size_t taken = depth(monitor_feed) - around;
+    printf("stack: %-44s %5zu bytes\n", name, taken);
+    if (answer.number != number || answer.bytes != bytes || answer.steps != steps) {
+        fprintf(stderr, "stack: %s: answered %u %u %u\n", name, answer.number, answer.bytes, answer.steps);
+        exit(EXIT_FAILURE);
+    }
+    if (taken > MOST) {
+        fprintf(stderr, "stack: %s: more than %d bytes\n", name, MOST);
+        exit(EXIT_FAILURE);
+    }
+}
+
+int main(void)
+{
+    respond(SENDS);
+    measure("the largest output: 32 requests of 37 bytes", MONITOR_ACCEPTED, 1184, 32);
+    respond(REGISTERS);
+    measure("the longest script: 32 additions", MONITOR_ACCEPTED, 0, 32);
+    respond(WRITES);
+    measure("32 reads and writes of cookies", MONITOR_ACCEPTED, 0, 32);
+    everything();
+    const uint8_t redirect[4] = {0x23, 1, 1, 1};
+    memcpy(record, redirect, sizeof redirect);
+    record_bytes = sizeof redirect;
+    measure("a redirect", MONITOR_ACCEPTED, 36, 0);
+    everything();
+    record_bytes = 0;
+    measure("refused after every check: malformed", MONITOR_MALFORMED, 0, 0);
+    state_words = 0;
+    measure("refused: a state of no words", MONITOR_STATE_UNSOUND, 0, 0);
+    out_bytes = 0;
+    measure("refused at once: no output", MONITOR_OUTPUT_SHORT, 0, 0);
+    return EXIT_SUCCESS;
+}
