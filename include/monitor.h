@@ -2,9 +2,9 @@
  * connections in a state that the caller lends, and writes the requests that may go out.
  * Link with libmonitor.a.
  *
- * The caller keeps everything: the monitor has no memory of its own, allocates nothing and never fails. A call takes less than 1 KiB of
- * stack and, on a current processor, less than a microsecond whatever is lent (measured: docs/PERFORMANCE.md). A session starts from a state
- * of zeros; each record is fed with the state as the last call left it:
+ * The caller keeps everything: the monitor has no memory of its own, allocates nothing and never fails. Its loops have fixed bounds, and it
+ * takes less than 1 KiB of stack; what calls cost is in docs/PERFORMANCE.md. A session starts from a state of zeros; each record is fed
+ * with the state as the last call left it:
  *
  *     uint32_t state[MONITOR_STATE_WORDS] = {0};
  *     uint8_t out[MONITOR_OUT_BYTES];
