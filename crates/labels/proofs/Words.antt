@@ -7,10 +7,11 @@ use mathlib.Core.Path.{_≡_, refl, sym, ap, _∙_, subst}
 use mathlib.Core.Bool.{Bool, true, false, Bool·beq}
 use lib.Dec.{T, ltb, eqb, ltb→lt, lt→ltb, eqb→eq, eqb-refl}
 use lib.Arith.{lt-one}
-use lib.Pow.{shr-lt, shr-shr}
+use lib.Pow.{shr-lt}
 use lib.Bits.{bitAnd, and-step, and-shr, and-zero-l, and-zero-r}
 use lib.Ieee.Fits.{and-i}
 use store.Enc.{and-l, and-r}
+use Rattle.prelude.proofs.Bits.{half-bit}
 use Rattle.labels.specs.Membership.{endpoints, allBelow}
 use Rattle.labels.specs.Sets.{holds, within, empty, all, only}
 use Rattle.labels.proofs.Below.{all-at, same}
@@ -36,9 +37,6 @@ and-bits s t e a h =
     let y = t / 2 ^ a in
     let same : bitAnd x y ≡ x = sym (and-shr s t a) ∙ ap (λ (z : ℕ). z / 2 ^ a) e in
     omega (arith, and-step x y, same)
-
-half-bit : (s a : ℕ) → s / 2 / 2 ^ a % 2 ≡ s / 2 ^ suc a % 2
-half-bit s a = ap (λ (x : ℕ). x % 2) (shr-shr s 1 a ∙ ap (λ (k : ℕ). s / 2 ^ k) (omega arith))
 
 lowest : (x y : ℕ) → (x ≡ 1 → y ≡ 1) → x < 2 → min x y ≡ x
 lowest zero y f l = omega arith

@@ -2,22 +2,22 @@
 use Rattle.labels.specs.Membership.{allBelow, anyBelow, subset, share}
 use Rattle.labels.specs.Sets.{holds, empty, all, only}
 use Rattle.records.specs.Bytes.{number, digits}
-use Rattle.records.specs.Layout.{widths, size, longest, join, split, values, fromValues}
-use Rattle.records.specs.Layout.{fits as fieldsFit}
+use Rattle.records.specs.Layout.{widths, size, longest, join, split, fitWidths, values, fromValues}
 use Rattle.records.specs.Codec.{isOneOf, keysMissing, keysOf, mapUnknown, keysZero, lengthOther, readRefusal, fieldsOf, decoded, carriable, bytesOf, writeRefusal, encoded, firstRecord, readAtMost, readRun, writeRun}
-use Rattle.machine.specs.Choice.{branch, keep}
-use Rattle.machine.specs.Policy.{emptyRow, rowWellFormed, connectionWellFormed, wellFormed, isUrl, fits, mayStore, mayRead, mayWrite, maySend, loadReaders, loadWriters, redirectReaders, redirectWriters}
+use Rattle.prelude.specs.Choice.{branch, keep}
+use Rattle.prelude.specs.Refusals.{firstOf}
+use Rattle.machine.specs.Policy.{emptyRow, rowWellFormed, connectionWellFormed, wellFormed, isUrl, fits, mayStore, mayCarry, mayRead, mayWrite, maySend, loadReaders, loadWriters, redirectReaders, redirectWriters}
 use Rattle.machine.specs.Session.{has, mapBelow, packed, kindOf, originOf, handlerOf, urlOf, cookieSound, hostSound, urlSound, documentSound, scriptSound, connectionSound, sound, setCookie, storeCookie, storeCookies, attaches, setConnection, requestMap, request, send}
 use Rattle.machine.specs.Scripts.{stepOf, stepAt, ended, goesOn, goesOnAfter, step, stopped, followed, runFrom, runScript}
-use Rattle.machine.specs.Machine.{cookiesOf, eventOf, named, pending, awaited, readersAllow, writersAllow, refusal, perform, outcome, feed}
+use Rattle.machine.specs.Machine.{cookiesOf, arrivedOf, eventOf, named, pending, awaited, readersAllow, writersAllow, refusal, receive, perform, outcome, feed}
 
 unfoldable pub machine : Unit {0}
 unfolding allBelow anyBelow subset share holds empty all only
-    number digits widths size longest join split values fromValues fieldsFit
+    number digits widths size longest join split fitWidths values fromValues
     isOneOf keysMissing keysOf mapUnknown keysZero lengthOther readRefusal fieldsOf decoded carriable bytesOf writeRefusal encoded firstRecord readAtMost readRun writeRun
-    branch keep
-    emptyRow rowWellFormed connectionWellFormed wellFormed isUrl fits mayStore mayRead mayWrite maySend loadReaders loadWriters redirectReaders redirectWriters
+    branch keep firstOf
+    emptyRow rowWellFormed connectionWellFormed wellFormed isUrl fits mayStore mayCarry mayRead mayWrite maySend loadReaders loadWriters redirectReaders redirectWriters
     has mapBelow packed kindOf originOf handlerOf urlOf cookieSound hostSound urlSound documentSound scriptSound connectionSound sound setCookie storeCookie storeCookies attaches setConnection requestMap request send
     stepOf stepAt ended goesOn goesOnAfter step stopped followed runFrom runScript
-    cookiesOf eventOf named pending awaited readersAllow writersAllow refusal perform outcome feed
+    cookiesOf arrivedOf eventOf named pending awaited readersAllow writersAllow refusal receive perform outcome feed
 machine = tt

@@ -7,25 +7,26 @@ use lib.Dec.{T, ltb→lt}
 use lib.ListN.{getD}
 use Rattle.records.specs.declared.Record.{Record}
 use Rattle.records.specs.Layout.{keyNumbers}
-use Rattle.machine.specs.Choice.{keep}
+use Rattle.prelude.specs.Choice.{keep}
 use Rattle.machine.specs.Policy.{hostKeys, connections}
 use Rattle.machine.specs.Session.{has, Cookie}
-use Rattle.machine.specs.Machine.{Event, Load, DocumentResponse, ScriptResponse, Redirect, cookiesOf, eventOf, named}
-use Rattle.machine.proofs.Choices.{parts, one}
+use Rattle.machine.specs.Machine.{Arrived, DocumentResponse, ScriptResponse, Redirect, Event, Load, Arrival, cookiesOf, arrivedOf, eventOf, named}
+use Rattle.prelude.proofs.Choices.{parts, one}
 use Rattle.machine.proofs.Lists.{Each, each-map, each-keep}
 
 abbrev pub EventCookies : (Cookie → Type 0) → Event → Type 0
 EventCookies P (Load u n) = Unit {0}
-EventCookies P (DocumentResponse u n cs x) = Each P cs
-EventCookies P (ScriptResponse u n cs v) = Each P cs
-EventCookies P (Redirect u n cs t) = Each P cs
+EventCookies P (Arrival u n cs what) = Each P cs
 
 -- the value of a script's response
+abbrev pub ArrivedValue : (ℕ → Type 0) → Arrived → Type 0
+ArrivedValue Q (DocumentResponse x) = Unit {0}
+ArrivedValue Q (ScriptResponse v) = Q v
+ArrivedValue Q (Redirect t) = Unit {0}
+
 abbrev pub EventValue : (ℕ → Type 0) → Event → Type 0
 EventValue Q (Load u n) = Unit {0}
-EventValue Q (DocumentResponse u n cs x) = Unit {0}
-EventValue Q (ScriptResponse u n cs v) = Q v
-EventValue Q (Redirect u n cs t) = Unit {0}
+EventValue Q (Arrival u n cs what) = ArrivedValue Q what
 
 module _ (r : Record) where
   abbrev cookie : ℕ → Cookie
@@ -37,13 +38,15 @@ module _ (r : Record) where
 
   pub event-cookies : (P : Cookie → Type 0) → Each (λ k. P (cookie k)) keyNumbers → EventCookies P (eventOf r)
   unfolding eventOf
-  event-cookies P all =
-      let cs = cookies-each P all in
-      one (EventCookies P) _ (λ _. tt) (λ _. one (EventCookies P) _ (λ _. cs) (λ _. one (EventCookies P) _ (λ _. cs) (λ _. cs)))
+  event-cookies P all = one (EventCookies P) _ (λ _. tt) (λ _. cookies-each P all)
+
+  arrived-value : (Q : ℕ → Type 0) → Q (r .value) → ArrivedValue Q (arrivedOf r)
+  unfolding arrivedOf
+  arrived-value Q q = one (ArrivedValue Q) _ (λ _. tt) (λ _. one (ArrivedValue Q) _ (λ _. q) (λ _. tt))
 
   pub event-value : (Q : ℕ → Type 0) → Q (r .value) → EventValue Q (eventOf r)
   unfolding eventOf
-  event-value Q q = one (EventValue Q) _ (λ _. tt) (λ _. one (EventValue Q) _ (λ _. tt) (λ _. one (EventValue Q) _ (λ _. q) (λ _. tt)))
+  event-value Q q = one (EventValue Q) _ (λ _. tt) (λ _. arrived-value Q q)
 
 -- the keys
 abbrev pub KeysBelow : List Cookie → Type 0
@@ -58,13 +61,9 @@ event-keys r = event-cookies r (λ (c : Cookie). c .key < hostKeys) (omega arith
 -- the connection
 abbrev pub connectionOf : Event → ℕ
 connectionOf (Load u n) = n
-connectionOf (DocumentResponse u n cs x) = n
-connectionOf (ScriptResponse u n cs v) = n
-connectionOf (Redirect u n cs t) = n
+connectionOf (Arrival u n cs what) = n
 
 pub connection-below : (p : List ℕ) (e : Event) → T (named p e) → connectionOf e < connections
 unfolding named
 connection-below p (Load u n) t = ltb→lt n connections (search parts)
-connection-below p (DocumentResponse u n cs x) t = ltb→lt n connections (search parts)
-connection-below p (ScriptResponse u n cs v) t = ltb→lt n connections (search parts)
-connection-below p (Redirect u n cs to) t = ltb→lt n connections (search parts)
+connection-below p (Arrival u n cs what) t = ltb→lt n connections (search parts)

@@ -16,11 +16,11 @@ use Rattle.records.specs.Codec.{decoded}
 use Rattle.machine.specs.Policy.{hostKeys, connections, cookieIndex, urlHost, isUrl, isConnection, fits, maySend, loadReaders, loadWriters, redirectReaders, redirectWriters}
 use Rattle.machine.specs.Session.{presenceAt, cookieValue, connectionWord, free, documentKind, scriptKind, packed, kindOf, originOf, handlerOf, urlOf, urlSound, Cookie, setCookie, storeCookie, storeCookies, setConnection, request, Effects, send}
 use Rattle.machine.specs.Scripts.{stepLimit, scriptAt, Step, end, constant, add, readCookie, writeCookie, sendRequest, skipIfZero, stepOf, stepAt, Progress, register, isScript, ended, goesOn, goesOnAfter, step, stopped, followed, runFrom, startingWith, runScript}
-use Rattle.machine.specs.Machine.{Event, Load, DocumentResponse, ScriptResponse, Redirect, named, pending, awaited, readersAllow, writersAllow, perform}
-use Rattle.machine.proofs.Choices.{parts, joined, one}
+use Rattle.machine.specs.Machine.{Arrived, DocumentResponse, ScriptResponse, Redirect, Event, Load, Arrival, carriesNames, named, pending, ofKind, awaited, ofTarget, readersAllow, writersAllow, receive, perform}
+use Rattle.prelude.proofs.Choices.{parts, joined, one}
 use Rattle.machine.proofs.Lists.{Each, each-append, each-set, each-at}
 use Rattle.machine.proofs.Accepted.{eventIn, Passed}
-use Rattle.machine.proofs.Events.{KeysBelow, EventKeys, event-keys, EventCookies, event-cookies, EventValue, event-value}
+use Rattle.machine.proofs.Events.{KeysBelow, EventKeys, event-keys, EventCookies, event-cookies, ArrivedValue, EventValue, event-value}
 use Rattle.machine.proofs.SoundStates.{Sound, sound-of, cookie-kept, connection-kept, connection-freed, openFields, word-fields, fields-word, fields-moved}
 
 -- Q and R that are kept: Q of 0 and of a sum, R of a request on an open connection
@@ -150,25 +150,31 @@ module _ (p : List ℕ) (Q : ℕ → Type 0) (R : Record → Type 0) (laws : Kee
         run-kept n page url stepLimit (stepAt code) (step-value Q code (table x)) 0 (startingWith v) (setConnection n free stored) (q, (z, (z, (z, tt))))
         (connection-freed p Q stored (store-kept n (urlHost p u) (omega arith) cs keys values s good) n l)
 
+    receive-kept : (u n : ℕ) (cs : List Cookie) (what : Arrived) → T (isUrl p u) → n < connections → T (carriesNames p what) → T (pending s n u)
+        → T (ofKind (kindOf (connectionWord s n)) what) → T (ofTarget (redirectReaders p n) what) → T (ofTarget (redirectWriters p n) what)
+        → KeysBelow cs → Each (λ (c : Cookie). Q (c .value)) cs → ArrivedValue Q what
+        → Good p Q R stepLimit (receive p scripts n (connectionWord s n) what (storeCookies p n (urlHost p u) cs s))
+    unfolding receive pending redirectReaders redirectWriters urlSound fits
+    receive-kept u n cs (DocumentResponse x) url l names waits kind r w keys values q =
+        let page = urlOf (connectionWord s n) in
+        response-kept u n cs page x 0 l keys values (rw (eqb→eq page u (search parts)) url) (laws .none)
+    receive-kept u n cs (ScriptResponse v) url l names waits kind r w keys values q =
+        let word = connectionWord s n in
+        let t = word-fields p n word (good .words n l) (search parts) in
+        response-kept u n cs (originOf word) (handlerOf word) v l keys values (script-origin n (kindOf word) (originOf word) (handlerOf word) (urlOf word) t kind) q
+    receive-kept u n cs (Redirect v) url l names waits kind r w keys values q =
+        let word = connectionWord s n in
+        let t = word-fields p n word (good .words n l) (search parts) in
+        send-kept n (kindOf word) (originOf word) (handlerOf word) v stepLimit (lit≤ tt) l (fields-moved p n (kindOf word) (originOf word) (handlerOf word) (urlOf word) t v (search joined))
+        (storeCookies p n (urlHost p u) cs s) (store-kept n (urlHost p u) (omega arith) cs keys values s good)
+
     perform-kept : (e : Event) → T (named p e) → T (awaited s e) → T (readersAllow p e) → T (writersAllow p e)
         → EventKeys e → EventCookies (λ (c : Cookie). Q (c .value)) e → EventValue Q e → Good p Q R stepLimit (perform p scripts s e)
-    unfolding perform named awaited pending readersAllow writersAllow loadReaders loadWriters redirectReaders redirectWriters urlSound fits
+    unfolding perform named awaited readersAllow writersAllow loadReaders loadWriters urlSound fits
     perform-kept (Load u n) a b c d keys values q =
         send-kept n documentKind 0 0 u stepLimit (lit≤ tt) (ltb→lt n connections (search parts)) (or-l (urlSound p n u) false (search joined)) s good
-    perform-kept (DocumentResponse u n cs x) a b c d keys values q =
-        let page = urlOf (connectionWord s n) in
-        response-kept u n cs page x 0 (ltb→lt n connections (search parts)) keys values (rw (eqb→eq page u (search parts)) (search parts)) (laws .none)
-    perform-kept (ScriptResponse u n cs v) a b c d keys values q =
-        let w = connectionWord s n in
-        let l = ltb→lt n connections (search parts) in
-        let t = word-fields p n w (good .words n l) (search parts) in
-        response-kept u n cs (originOf w) (handlerOf w) v l keys values (script-origin n (kindOf w) (originOf w) (handlerOf w) (urlOf w) t (search parts)) q
-    perform-kept (Redirect u n cs v) a b c d keys values q =
-        let w = connectionWord s n in
-        let l = ltb→lt n connections (search parts) in
-        let t = word-fields p n w (good .words n l) (search parts) in
-        send-kept n (kindOf w) (originOf w) (handlerOf w) v stepLimit (lit≤ tt) l (fields-moved p n (kindOf w) (originOf w) (handlerOf w) (urlOf w) t v (search joined))
-        (storeCookies p n (urlHost p u) cs s) (store-kept n (urlHost p u) (omega arith) cs keys values s good)
+    perform-kept (Arrival u n cs what) a b c d keys values q =
+        receive-kept u n cs what (search parts) (ltb→lt n connections (search parts)) (search parts) (search parts) (search parts) c d keys values q
 
 -- ---- a record that is accepted, with Q of the state's and the record's values
 module _ (p : List ℕ) (Q : ℕ → Type 0) (R : Record → Type 0) (laws : Keeps p Q R) (scripts s bytes out : List ℕ) where

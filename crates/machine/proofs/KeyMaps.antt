@@ -5,10 +5,10 @@ use native.Mathlib.Omega.{arith}
 use mathlib.Core.Bool.{Bool, true, false}
 use mathlib.Core.Path.{_≡_, sym, ap, _∙_, subst}
 use lib.Dec.{eqb}
-use lib.Pow.{shr-shr}
-use Rattle.machine.specs.Choice.{branch}
+use Rattle.prelude.specs.Choice.{branch}
 use Rattle.machine.specs.Session.{has, mapBelow}
-use Rattle.machine.proofs.Choices.{one}
+use Rattle.prelude.proofs.Choices.{one}
+use Rattle.prelude.proofs.Bits.{half-bit}
 
 -- the lowest bit, and the others
 lowest : (b : Bool) (m : ℕ) → eqb ((branch b 1 0 + 2 * m) / 1 % 2) 1 ≡ b
@@ -21,8 +21,7 @@ digit b = one (λ (x : ℕ). x < 2) b (λ _. omega arith) (λ _. omega arith)
 
 higher : (b : Bool) (m k : ℕ) → (branch b 1 0 + 2 * m) / 2 ^ suc k % 2 ≡ m / 2 ^ k % 2
 higher b m k =
-    ap (λ (x : ℕ). x % 2) (ap (λ (j : ℕ). (branch b 1 0 + 2 * m) / 2 ^ j) (omega arith) ∙ sym (shr-shr (branch b 1 0 + 2 * m) 1 k))
-    ∙ ap (λ (x : ℕ). x / 2 ^ k % 2) (half (branch b 1 0) m (digit b))
+    sym (half-bit (branch b 1 0 + 2 * m) k) ∙ ap (λ (x : ℕ). x / 2 ^ k % 2) (half (branch b 1 0) m (digit b))
   where
     half : (d m : ℕ) → d < 2 → (d + 2 * m) / 2 ≡ m
     half d m l = omega arith

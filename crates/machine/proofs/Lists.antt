@@ -4,8 +4,8 @@ use native.Mathlib.Nat.{zero-lt-suc}
 use mathlib.Core.Bool.{Bool}
 use mathlib.Core.List.{List, [], _∷_, _++_, map}
 use lib.ListN.{length, getD, take, drop, set}
-use Rattle.machine.specs.Choice.{keep}
-use Rattle.machine.proofs.Choices.{one}
+use Rattle.prelude.specs.Choice.{keep}
+use Rattle.prelude.proofs.Choices.{one}
 
 abbrev pub Each : {A : Type 0} → (A → Type 0) → List A → Type 0
 Each P [] = Unit {0}

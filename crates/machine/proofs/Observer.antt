@@ -8,15 +8,14 @@ use mathlib.Core.List.{List, _++_, map}
 use mathlib.Core.Path.{_≡_, refl, sym, ap, _∙_, subst}
 use lib.Dec.{T, T-not}
 use lib.ListN.{length}
-use Rattle.labels.specs.Sets.{holds}
 use Rattle.labels.specs.Addresses.{hosts}
 use Rattle.records.specs.declared.Record.{Record}
-use Rattle.machine.specs.Choice.{keep}
-use Rattle.machine.specs.Policy.{hostKeys, connections, cookieIndex, cookieReaders, urlHost, urlMessage, isUrl, mayStore, mayRead, mayWrite, maySend, loadReaders, redirectReaders, redirectWriters}
+use Rattle.prelude.specs.Choice.{keep}
+use Rattle.machine.specs.Policy.{hostKeys, connections, cookieIndex, urlHost, isUrl, mayStore, mayCarry, mayRead, mayWrite, maySend, loadReaders, redirectReaders, redirectWriters}
 use Rattle.machine.specs.Session.{stateWords, cookieValue, present, has, connectionWord, setCookie, setConnection}
 use Rattle.machine.specs.Machine.{plainMap, cookiesOf}
 use Rattle.machine.specs.Secrecy.{Observation}
-use Rattle.machine.proofs.Choices.{keep-append, map-append}
+use Rattle.prelude.proofs.Choices.{keep-append, map-append}
 use Rattle.machine.proofs.StateWords.{length-cookie, length-connection, value-here, value-elsewhere, present-here, present-elsewhere, connection-past-cookie, connection-here, connection-elsewhere, value-past-connection, presence-past-connection}
 
 pub record Observer : Type 0 where
@@ -38,8 +37,7 @@ pub record Laws (p : List ℕ) (v : Observer) : Type 0 where
   pub sends : (n u m : ℕ) → T (maySend p n u m) → T (v .seesRequest u) → T (v .seesScript n)
   pub opens : (n u m : ℕ) → T (maySend p n u m) → T (v .seesConnection m) → T (v .seesScript n)
   pub attaches :
-      (u k : ℕ) → T (v .seesRequest u) → T (v .seesAttached u k)
-      → T (holds (cookieReaders p (cookieIndex (urlHost p u) k)) (urlMessage p u)) → T (v .seesCookie (cookieIndex (urlHost p u) k))
+      (u k : ℕ) → T (mayCarry p u k) → T (v .seesRequest u) → T (v .seesAttached u k) → T (v .seesCookie (cookieIndex (urlHost p u) k))
   pub loads : (n u : ℕ) → T (loadReaders p n u) → T (v .seesConnection n) → T (v .seesLoad u)
   pub requests : (u : ℕ) → T (isUrl p u) → T (v .seesRequest u) → T (v .seesLoad u)
   pub redirects : (n t : ℕ) → T (redirectReaders p n t) → T (redirectWriters p n t) → T (v .seesRequest t) → T (v .seesConnection n)

@@ -9,8 +9,8 @@ use Rattle.labels.specs.Sets.{holds, within, meets}
 use Rattle.labels.proofs.Below.{all-at}
 use Rattle.labels.proofs.Membership.{share-mono, share-member}
 use Rattle.labels.proofs.Words.{holds-below}
-use Rattle.machine.specs.Policy.{urlRows, connections, urlAddress, cookieIndex, urlReaders, cookieReaders, connectionReaders, scriptReaders, urlHost, urlMessage, urlEvent, emptyRow, rowWellFormed, connectionWellFormed, wellFormed, isUrl, mayStore, mayRead, mayWrite, maySend, loadReaders, redirectReaders}
-use Rattle.machine.proofs.Choices.{parts}
+use Rattle.machine.specs.Policy.{urlRows, connections, urlAddress, cookieIndex, urlReaders, cookieReaders, connectionReaders, scriptReaders, urlHost, urlMessage, urlEvent, emptyRow, rowWellFormed, connectionWellFormed, wellFormed, isUrl, mayStore, mayCarry, mayRead, mayWrite, maySend, loadReaders, redirectReaders}
+use Rattle.prelude.proofs.Choices.{parts}
 use Rattle.machine.proofs.Observer.{Observer, Laws}
 
 unfoldable pub readers : ℕ → List ℕ → Observer
@@ -54,6 +54,10 @@ module _ (set : ℕ) (p : List ℕ) (good : T (wellFormed p)) where
   unfolding mayStore
   stored n c t = search parts
 
+  carried : (u k : ℕ) → T (mayCarry p u k) → T (holds (cookieReaders p (cookieIndex (urlHost p u) k)) (urlMessage p u))
+  unfolding mayCarry
+  carried u k t = t
+
   read : (n c : ℕ) → T (mayRead p n c) → T (within (scriptReaders p n) (cookieReaders p c))
   unfolding mayRead
   read n c t = search parts
@@ -83,7 +87,7 @@ module _ (set : ℕ) (p : List ℕ) (good : T (wellFormed p)) where
     writes = λ n c t. around (cookieReaders p c) (scriptReaders p n) (written n c t);
     sends = λ n u m t. shares (scriptReaders p n) (urlEvent p u) (sent n u m t .0);
     opens = λ n u m t. around (connectionReaders p m) (scriptReaders p n) (sent n u m t .1);
-    attaches = λ u k seen shown held. shares (cookieReaders p (cookieIndex (urlHost p u) k)) (urlMessage p u) held shown;
+    attaches = λ u k t seen. shares (cookieReaders p (cookieIndex (urlHost p u) k)) (urlMessage p u) (carried u k t);
     loads = λ n u t. around (connectionReaders p n) (urlReaders p u) (loaded n u t);
     requests = λ u t. shares (urlReaders p u) (urlEvent p u) (event-held u t);
     redirects = λ n t r w. shares (connectionReaders p n) (urlEvent p t) (redirected n t r);

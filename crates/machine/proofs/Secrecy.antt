@@ -10,16 +10,17 @@ use lib.Pow.{areBytes}
 use Rattle.labels.specs.Sets.{holds}
 use Rattle.records.specs.declared.Direction.the-variants.{Input}
 use Rattle.records.specs.declared.Record.{Record}
-use Rattle.records.specs.Codec.{accepted, decoded, readAtMost, readRun, writeRun}
+use Rattle.prelude.specs.Refusals.{accepted}
+use Rattle.records.specs.Codec.{decoded, readAtMost, readRun, writeRun}
 use Rattle.records.specs.Codec.{Run as Reading}
-use Rattle.machine.specs.Choice.{branch, keep}
+use Rattle.prelude.specs.Choice.{branch, keep}
 use Rattle.machine.specs.Policy.{urlMessage, urlEvent, wellFormed}
 use Rattle.machine.specs.Session.{stateWords, emptyState, Cookie}
 use Rattle.machine.specs.Scripts.{tableBytes, stopped}
-use Rattle.machine.specs.Machine.{Event, Load, DocumentResponse, ScriptResponse, Redirect, plainMap, cookiesOf, eventOf, named, refusal, outcome, feed}
+use Rattle.machine.specs.Machine.{Event, Load, Arrival, plainMap, cookiesOf, eventOf, named, refusal, outcome, feed}
 use Rattle.machine.specs.Guarantees.{areWords}
 use Rattle.machine.specs.Secrecy.{Item, Feedable, feedAll, run, shownCookies, shown, shownRecord, shownRecords, remaining, observationOf, observations, SameView, Secrecy, NothingUnread}
-use Rattle.machine.proofs.Choices.{either, branch-true, branch-false}
+use Rattle.prelude.proofs.Choices.{either, branch-true, branch-false}
 use Rattle.machine.proofs.Accepted.{all-passed}
 use Rattle.machine.proofs.Soundness.{empty-sound}
 use Rattle.machine.proofs.WordSizes.{words-kept}
@@ -55,9 +56,7 @@ module _ (set : ℕ) (p : List ℕ) where
   same-shown : (e : Event) → branch (seesEvent (readers set p) e) (seenOf p (readers set p) e ∷ []) [] ≡ shown set p e
   unfolding seesEvent seenOf seenCookies shown shownCookies readers
   same-shown (Load u n) = refl
-  same-shown (DocumentResponse u n cs x) = refl
-  same-shown (ScriptResponse u n cs v) = refl
-  same-shown (Redirect u n cs t) = refl
+  same-shown (Arrival u n cs what) = refl
 
   same-records : (is : List Item) → seenOfItems p (readers set p) is ≡ shownRecords set p is
   unfolding seenOfItems seenOfRecord shownRecords shownRecord

@@ -8,15 +8,14 @@ use mathlib.Core.Path.{_≡_, refl, sym, ap, ap₂, _∙_}
 use lib.Dec.{T, eqb}
 use lib.ListN.{getD}
 use store.Enc.{and-r}
-use Rattle.labels.specs.Sets.{holds}
 use Rattle.records.specs.declared.Record.{Record}
 use Rattle.records.specs.Layout.{keyNumbers, documentRequest, scriptRequest, withCookies}
-use Rattle.machine.specs.Choice.{branch, keep}
-use Rattle.machine.specs.Policy.{hostKeys, cookieIndex, cookieReaders, urlHost, urlMessage}
+use Rattle.prelude.specs.Choice.{branch, keep}
+use Rattle.machine.specs.Policy.{hostKeys, cookieIndex, urlHost, mayCarry}
 use Rattle.machine.specs.Session.{documentKind, cookieValue, present, has, keyMap, Cookie, attaches, requestMap, request}
 use Rattle.machine.specs.Machine.{plainMap, cookiesOf}
 use Rattle.machine.specs.Secrecy.{Observation}
-use Rattle.machine.proofs.Choices.{either, and-alike, one, two, branch-false, keep-one, keep-none}
+use Rattle.prelude.proofs.Choices.{either, and-alike, one, two, branch-false, keep-one, keep-none}
 use Rattle.machine.proofs.Lists.{Each}
 use Rattle.machine.proofs.KeyMaps.{has-map}
 use Rattle.machine.proofs.Observer.{Observer, Laws, Agree, observationBy, observationsBy}
@@ -88,16 +87,13 @@ module _ (p : List ℕ) (v : Observer) (laws : Laws p v) (s t : List ℕ) (a : A
   abbrev h : ℕ
   h = urlHost p u
 
-  abbrev may : ℕ → Bool
-  may k = holds (cookieReaders p (cookieIndex h k)) (urlMessage p u)
-
-  equal : (k : ℕ) → k < hostKeys → T (v .seesAttached u k) → T (may k)
+  equal : (k : ℕ) → k < hostKeys → T (v .seesAttached u k) → T (mayCarry p u k)
       → (present s h k ≡ present t h k) × (cookieValue s (cookieIndex h k) ≡ cookieValue t (cookieIndex h k))
-  equal k l see m = a .cookies h k (omega arith) l (laws .attaches u k seen see m)
+  equal k l see m = a .cookies h k (omega arith) l (laws .attaches u k m seen see)
 
   attached-alike : (k : ℕ) → k < hostKeys → T (v .seesAttached u k) → attaches p s u k ≡ attaches p t u k
   unfolding attaches
-  attached-alike k l see = both-and (present s h k) (present t h k) (may k) (λ m. equal k l see m .0)
+  attached-alike k l see = both-and (present s h k) (present t h k) (mayCarry p u k) (λ m. equal k l see m .0)
 
   keys-alike : (k : ℕ) → k < hostKeys → T (v .seesAttached u k) → has (keyMap (attaches p s u)) k ≡ has (keyMap (attaches p t u)) k
   keys-alike k l see = has-map hostKeys (attaches p s u) k l ∙ attached-alike k l see ∙ sym (has-map hostKeys (attaches p t u) k l)
@@ -110,7 +106,7 @@ module _ (p : List ℕ) (v : Observer) (laws : Laws p v) (s t : List ℕ) (a : A
   unfolding attaches
   values-alike k l see b =
       at-key (values s) k l
-      ∙ two (λ (x y : ℕ). x ≡ y) (attaches p s u k) (attaches p t u k) (attached-alike k l see) (λ on. equal k l see (and-r (present s h k) (may k) on) .1) (λ _. refl)
+      ∙ two (λ (x y : ℕ). x ≡ y) (attaches p s u k) (attaches p t u k) (attached-alike k l see) (λ on. equal k l see (and-r (present s h k) (mayCarry p u k) on) .1) (λ _. refl)
       ∙ sym (at-key (values t) k l)
 
   observation-alike : observationBy v (request p s n kind handler u) ≡ observationBy v (request p t n kind handler u)

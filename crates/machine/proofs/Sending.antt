@@ -19,13 +19,13 @@ use Rattle.records.specs.RoundTrips.{EightCookies}
 use Rattle.records.proofs.RoundTrips.{AllCarriable, none, more}
 use Rattle.records.proofs.Carriable.{Fit, carriable-by}
 use Rattle.records.proofs.Runs.{carriable-read}
-use Rattle.machine.specs.Choice.{branch}
+use Rattle.prelude.specs.Choice.{branch}
 use Rattle.machine.specs.Policy.{hostKeys, connections, cookieIndex, urlHost}
 use Rattle.machine.specs.Session.{cookieValue, keyMap, has, documentKind, scriptKind, attaches, requestMap, request, Effects}
 use Rattle.machine.specs.Scripts.{stepLimit, stopped}
 use Rattle.machine.specs.Machine.{outputRoom, outcome, feed}
 use Rattle.machine.specs.Guarantees.{areWords, SentReadsBack}
-use Rattle.machine.proofs.Choices.{parts, one}
+use Rattle.prelude.proofs.Choices.{parts, one}
 use Rattle.machine.proofs.Lists.{Each}
 use Rattle.machine.proofs.KeyMaps.{has-map, map-below}
 use Rattle.machine.proofs.Accepted.{either-way}
@@ -106,7 +106,7 @@ sent-fits p scripts s bytes out ts ws bs =
     either-way (Fits out) p scripts s bytes out
     (λ ok.
     let (_, sent, few) = words-good p Writable (writable p) scripts s bytes out ts ws bs ok in
-    (all-carriable _ sent, le-trans (mul-le-mul-right (longest Request) few) (nltb→le (length out) outputRoom (ok .room)), few))
+    (all-carriable _ sent, le-trans (mul-le-mul-right (longest Request) few) (ok .room), few))
     (none, omega arith, omega arith)
 
 pub sent-reads-back : SentReadsBack

@@ -8,11 +8,11 @@ use mathlib.Core.Logic.{⊎-elim}
 use mathlib.Core.Path.{_≡_, refl, sym, ap, ap₂, _∙_, subst}
 use lib.Dec.{T, ltb, eqb, ltb→lt, T-not, not-T}
 use lib.ListN.{length, set}
-use Rattle.machine.specs.Choice.{keep}
+use Rattle.prelude.specs.Choice.{keep}
 use Rattle.machine.specs.Policy.{hostKeys, connections, cookieIndex, urlHost, isUrl, isConnection, mayRead, mayWrite, maySend}
 use Rattle.machine.specs.Session.{stateWords, scriptKind, cookieValue, present, packed, Effects, send}
 use Rattle.machine.specs.Scripts.{scriptSteps, stepLimit, Step, end, constant, add, readCookie, writeCookie, sendRequest, skipIfZero, stepAt, scriptAt, Progress, register, isRegister, isKey, isScript, ended, goesOn, goesOnAfter, step, stopped, followed, runFrom, startingWith, runScript}
-use Rattle.machine.proofs.Choices.{parts, either, and-alike, one, two}
+use Rattle.prelude.proofs.Choices.{parts, either, and-alike, one, two}
 use Rattle.machine.proofs.Observer.{Observer, Laws, Agree, observationsBy, observations-append, agree-refl, agree-sym, agree-trans, unseen-cookie, unseen-connection, same-cookie, same-connection}
 use Rattle.machine.proofs.SeenRequests.{unseen-request, same-request}
 
@@ -194,14 +194,14 @@ module _ (p : List ℕ) (v : Observer) (laws : Laws p v) where
     }
 
     module _ (code : ℕ → Step) where
-      run-alike : T (v .seesScript n) → (fuel i : ℕ) (rs s t : List ℕ) → Agree v s t → Alike v (runFrom fuel code p n page i rs s) (runFrom fuel code p n page i rs t)
+      steps-alike : T (v .seesScript n) → (fuel i : ℕ) (rs s t : List ℕ) → Agree v s t → Alike v (runFrom fuel code p n page i rs s) (runFrom fuel code p n page i rs t)
       unfolding runFrom
-      run-alike seen zero i rs s t a = stopped-alike v s t a
-      run-alike seen (suc fuel) i rs s t a =
+      steps-alike seen zero i rs s t a = stopped-alike v s t a
+      steps-alike seen (suc fuel) i rs s t a =
           let l = lock seen (code i) i rs s t a in
           let x = step p n page (code i) i rs s in
           let y = step p n page (code i) i rs t in
-          let rest = run-alike seen fuel (x .place) (x .registers) (x .state) (y .state) (l .states) in
+          let rest = steps-alike seen fuel (x .place) (x .registers) (x .state) (y .state) (l .states) in
           let same-place = subst (λ (j : ℕ). Alike v (runFrom fuel code p n page (x .place) (x .registers) (x .state)) (runFrom fuel code p n page j (x .registers) (y .state))) (l .place) rest in
           let same-both = subst (λ (qs : List ℕ). Alike v (runFrom fuel code p n page (x .place) (x .registers) (x .state)) (runFrom fuel code p n page (y .place) qs (y .state))) (l .registers) same-place in
           two (λ (f g : List ℕ → Effects). Alike v (f s) (g t)) (ltb i scriptSteps) (ltb i scriptSteps) refl
@@ -223,7 +223,7 @@ module _ (p : List ℕ) (v : Observer) (laws : Laws p v) where
   script-alike scripts n page x value s t a =
       let code = stepAt (scriptAt scripts x) in
       ⊎-elim
-      (λ (seen : T (v .seesScript n)). run-alike n page code seen stepLimit 0 (startingWith value) s t a)
+      (λ (seen : T (v .seesScript n)). steps-alike n page code seen stepLimit 0 (startingWith value) s t a)
       (λ (hidden : T (not (v .seesScript n))). quiet-alike v s t _ _ a (run-quiet n page code hidden stepLimit 0 (startingWith value) s (a .left)) (run-quiet n page code hidden stepLimit 0 (startingWith value) t (a .right)))
       (either (v .seesScript n))
 

@@ -14,8 +14,9 @@ use lib.Ieee.Fits.{and-i}
 use Rattle.labels.proofs.Below.{or-cases}
 use Rattle.records.specs.declared.Direction.the-variants.{Input}
 use Rattle.records.specs.declared.Record.{Record}
-use Rattle.records.specs.Layout.{widths, values, fits}
-use Rattle.records.specs.Codec.{accepted, decoded}
+use Rattle.records.specs.Layout.{widths, values, fitWidths}
+use Rattle.prelude.specs.Refusals.{accepted}
+use Rattle.records.specs.Codec.{decoded}
 use Rattle.records.proofs.Encoding.{counted, fitting}
 use Rattle.records.proofs.Carriable.{decoded-carriable}
 use Rattle.machine.specs.Policy.{connections}
@@ -23,7 +24,7 @@ use Rattle.machine.specs.Session.{presenceAt, connectionsAt, free, docum
 use Rattle.machine.specs.Scripts.{stepLimit, stopped, scriptAt, scriptBytes}
 use Rattle.machine.specs.Machine.{feed, perform}
 use Rattle.machine.specs.Guarantees.{areWords, WordsKept}
-use Rattle.machine.proofs.Choices.{parts}
+use Rattle.prelude.proofs.Choices.{parts}
 use Rattle.machine.proofs.Lists.{Each, each-take, each-drop, each-at, each-of}
 use Rattle.machine.proofs.ConnectionWords.{below-kind}
 use Rattle.machine.proofs.Accepted.{eventIn, Passed, either-way}
@@ -85,8 +86,8 @@ table-words scripts t x i =
     omega arith
 
 -- ---- records
-fit-words : (ws vs : List ℕ) → length vs ≡ length ws → Each (λ w. w ≤ 4) ws → T (fits ws vs) → Each Word vs
-unfolding fits
+fit-words : (ws vs : List ℕ) → length vs ≡ length ws → Each (λ w. w ≤ 4) ws → T (fitWidths ws vs) → Each Word vs
+unfolding fitWidths
 fit-words [] [] e small t = tt
 fit-words [] (v ∷ vs) e small t = absurd (omega arith)
 fit-words (w ∷ ws) [] e small t = tt
@@ -98,10 +99,10 @@ unfolding widths
 four-bytes m keys = omega arith
 
 -- the values of a record that is accepted
-record-words : (bytes : List ℕ) → T (areBytes bytes) → T (eqb (decoded Input bytes .number) accepted) → Each Word (values (decoded Input bytes .fields))
-record-words bytes bs t =
+record-words : (bytes : List ℕ) → T (areBytes bytes) → decoded Input bytes .number ≡ accepted → Each Word (values (decoded Input bytes .fields))
+record-words bytes bs e =
     let r = decoded Input bytes .fields in
-    fit-words (widths (r .map) (r .keys)) (values r) (counted r) (four-bytes (r .map) (r .keys)) (fitting Input r (decoded-carriable Input bytes bs (eqb→eq (decoded Input bytes .number) accepted t)))
+    fit-words (widths (r .map) (r .keys)) (values r) (counted r) (four-bytes (r .map) (r .keys)) (fitting Input r (decoded-carriable Input bytes bs e))
 
 -- ---- a record that is accepted, with what holds of the requests of such states
 module _ (p : List ℕ) (R : Record → Type 0)

@@ -1,4 +1,3 @@
-pub mod Choice
 pub mod Policy
 pub mod Session
 pub mod Scripts

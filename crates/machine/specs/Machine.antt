@@ -2,27 +2,32 @@
 -- their order, what an accepted record does, and `feed`, which is all of it for one call.
 use Prim.Native.Nat.{ℕ, _-_, _*_, _^_}
 use mathlib.Core.Bool.{Bool, true, not, _&&_}
-use mathlib.Core.List.{List, map}
+use mathlib.Core.List.{List, [], _∷_, _++_, map}
 use lib.Dec.{ltb, eqb}
 use lib.ListN.{length, getD}
+use Rattle.prelude.specs.Choice.{branch, keep}
+use Rattle.prelude.specs.Refusals.{accepted, Refusal, refuse, firstOf}
 use Rattle.records.specs.declared.Direction.the-variants.{Input, Request}
 use Rattle.records.specs.declared.Record.{Record}
 use Rattle.records.specs.Bytes.{bit}
 use Rattle.records.specs.Layout.{keyNumbers, cookiesBit, load, documentResponse, scriptResponse, longest}
-use Rattle.records.specs.Codec.{accepted, decoded, writeRun}
-use Rattle.machine.specs.Choice.{branch, keep}
+use Rattle.records.specs.Codec.{readRefusals, decoded, writeRun}
 use Rattle.machine.specs.Policy.{urlHost, wellFormed, isUrl, isConnection, loadReaders, loadWriters, redirectReaders, redirectWriters}
 use Rattle.machine.specs.Session.{free, documentKind, scriptKind, connectionWord, kindOf, originOf, handlerOf, urlOf, sound, has, Cookie, storeCookies, setConnection, Effects, send}
 use Rattle.machine.specs.Scripts.{stepLimit, tableBytes, isScript, stopped, runScript}
 
 -- ---- what a record says
 
--- Each has the URL and the connection that it names; document 01 calls a response an answer.
+-- what can arrive on a connection; document 01 calls a response an answer
+pub data Arrived : Type 0 where
+  DocumentResponse : (script : ℕ) → Arrived
+  ScriptResponse : (value : ℕ) → Arrived
+  Redirect : (target : ℕ) → Arrived
+
+-- a page is loaded, or something arrives for a URL, with cookies
 pub data Event : Type 0 where
   Load : (url connection : ℕ) → Event
-  DocumentResponse : (url connection : ℕ) (cookies : List Cookie) (script : ℕ) → Event
-  ScriptResponse : (url connection : ℕ) (cookies : List Cookie) (value : ℕ) → Event
-  Redirect : (url connection : ℕ) (cookies : List Cookie) (target : ℕ) → Event
+  Arrival : (url connection : ℕ) (cookies : List Cookie) (what : Arrived) → Event
 
 -- a map byte without its bit for cookies
 abbrev pub plainMap : ℕ → ℕ
@@ -32,48 +37,59 @@ plainMap m = m - 2 ^ cookiesBit * bit m cookiesBit
 unfoldable pub cookiesOf : Record → List Cookie
 cookiesOf r = map (λ k. record { key = k; value = getD (r .cookies) k 0 }) (keep (has (r .keys)) keyNumbers)
 
--- the event of a record's fields, for the maps that an input has
-unfoldable pub eventOf : Record → Event
-eventOf r =
+-- what a record's fields say, for the maps that an input has
+unfoldable pub arrivedOf : Record → Arrived
+arrivedOf r =
     let m = plainMap (r .map) in
-    branch (eqb m load) (Load (r .url) (r .connection))
-    (branch (eqb m documentResponse) (DocumentResponse (r .url) (r .connection) (cookiesOf r) (r .script))
-    (branch (eqb m scriptResponse) (ScriptResponse (r .url) (r .connection) (cookiesOf r) (r .value))
-    (Redirect (r .url) (r .connection) (cookiesOf r) (r .target))))
+    branch (eqb m documentResponse) (DocumentResponse (r .script))
+    (branch (eqb m scriptResponse) (ScriptResponse (r .value))
+    (Redirect (r .target)))
+
+unfoldable pub eventOf : Record → Event
+eventOf r = branch (eqb (plainMap (r .map)) load) (Load (r .url) (r .connection)) (Arrival (r .url) (r .connection) (cookiesOf r) (arrivedOf r))
 
 -- ---- the tests of an event: each refusal applies where its test fails
 
 -- 6: every number that the record carries names something
+abbrev pub carriesNames : List ℕ → Arrived → Bool
+carriesNames p (DocumentResponse x) = isScript x
+carriesNames p (ScriptResponse v) = true
+carriesNames p (Redirect t) = isUrl p t
+
 unfoldable pub named : List ℕ → Event → Bool
 named p (Load u n) = isUrl p u && isConnection n
-named p (DocumentResponse u n cs x) = isUrl p u && (isConnection n && isScript x)
-named p (ScriptResponse u n cs v) = isUrl p u && isConnection n
-named p (Redirect u n cs t) = isUrl p u && (isConnection n && isUrl p t)
+named p (Arrival u n cs what) = isUrl p u && (isConnection n && carriesNames p what)
 
 -- connection n is open, and holds URL u
 unfoldable pub pending : List ℕ → ℕ → ℕ → Bool
 pending s n u = not (eqb (connectionWord s n) free) && eqb (urlOf (connectionWord s n)) u
 
--- 7: a response or redirect is waited for on its connection, a response by its kind; a load need not be
+-- a response is waited for by connections of its kind, a redirect by all
+abbrev pub ofKind : ℕ → Arrived → Bool
+ofKind kind (DocumentResponse x) = eqb kind documentKind
+ofKind kind (ScriptResponse v) = eqb kind scriptKind
+ofKind kind (Redirect t) = true
+
+-- 7: what arrives is waited for on its connection; a load need not be
 unfoldable pub awaited : List ℕ → Event → Bool
 awaited s (Load u n) = true
-awaited s (DocumentResponse u n cs x) = pending s n u && eqb (kindOf (connectionWord s n)) documentKind
-awaited s (ScriptResponse u n cs v) = pending s n u && eqb (kindOf (connectionWord s n)) scriptKind
-awaited s (Redirect u n cs t) = pending s n u
+awaited s (Arrival u n cs what) = pending s n u && ofKind (kindOf (connectionWord s n)) what
+
+-- a test of a redirect's target; a response has none
+abbrev pub ofTarget : (ℕ → Bool) → Arrived → Bool
+ofTarget test (DocumentResponse x) = true
+ofTarget test (ScriptResponse v) = true
+ofTarget test (Redirect t) = test t
 
 -- 8: the conditions on readers
 unfoldable pub readersAllow : List ℕ → Event → Bool
 readersAllow p (Load u n) = loadReaders p n u
-readersAllow p (DocumentResponse u n cs x) = true
-readersAllow p (ScriptResponse u n cs v) = true
-readersAllow p (Redirect u n cs t) = redirectReaders p n t
+readersAllow p (Arrival u n cs what) = ofTarget (redirectReaders p n) what
 
 -- 9: the conditions on writers
 unfoldable pub writersAllow : List ℕ → Event → Bool
 writersAllow p (Load u n) = loadWriters p n u
-writersAllow p (DocumentResponse u n cs x) = true
-writersAllow p (ScriptResponse u n cs v) = true
-writersAllow p (Redirect u n cs t) = redirectWriters p n t
+writersAllow p (Arrival u n cs what) = ofTarget (redirectWriters p n) what
 
 -- ---- the numbers
 
@@ -89,7 +105,7 @@ scriptsBad = 3
 abbrev pub stateUnsound : ℕ
 stateUnsound = 4
 
--- 5, malformed, is the number that decoding answers
+-- 5, malformed, is decoding's own
 
 abbrev pub nameUnknown : ℕ
 nameUnknown = 6
@@ -107,41 +123,49 @@ writersForbid = 9
 abbrev pub outputRoom : ℕ
 outputRoom = stepLimit * longest Request
 
+-- 1 to 4: what is lent, whatever the record says
+abbrev pub lentRefusals : List ℕ → List ℕ → List ℕ → List ℕ → List (Refusal ℕ)
+lentRefusals p scripts s out =
+    refuse outputShort (ltb (length out) outputRoom)
+    ∷ refuse policyBad (not (wellFormed p))
+    ∷ refuse scriptsBad (not (eqb (length scripts) tableBytes))
+    ∷ refuse stateUnsound (not (sound p s))
+    ∷ []
+
+-- 7 to 9: an event that names something
+abbrev pub judgements : List ℕ → List ℕ → Event → List (Refusal ℕ)
+judgements p s event =
+    refuse notAwaited (not (awaited s event))
+    ∷ refuse readersForbid (not (readersAllow p event))
+    ∷ refuse writersForbid (not (writersAllow p event))
+    ∷ []
+
+abbrev pub eventRefusals : List ℕ → List ℕ → Event → List (Refusal ℕ)
+eventRefusals p s event = refuse nameUnknown (not (named p event)) ∷ judgements p s event
+
+-- all of them in their order: 5 stands between the two, as decoding's own refusals
+abbrev pub refusals : List ℕ → List ℕ → List ℕ → List ℕ → List ℕ → List (Refusal ℕ)
+refusals p scripts s bytes out =
+    lentRefusals p scripts s out ++ (readRefusals Input bytes ++ eventRefusals p s (eventOf (decoded Input bytes .fields)))
+
 -- the first that applies
 unfoldable pub refusal : List ℕ → List ℕ → List ℕ → List ℕ → List ℕ → ℕ
-refusal p scripts s bytes out =
-    let read = decoded Input bytes in
-    let event = eventOf (read .fields) in
-    branch (ltb (length out) outputRoom) outputShort
-    (branch (not (wellFormed p)) policyBad
-    (branch (not (eqb (length scripts) tableBytes)) scriptsBad
-    (branch (not (sound p s)) stateUnsound
-    (branch (not (eqb (read .number) accepted)) (read .number)
-    (branch (not (named p event)) nameUnknown
-    (branch (not (awaited s event)) notAwaited
-    (branch (not (readersAllow p event)) readersForbid
-    (branch (not (writersAllow p event)) writersForbid
-    accepted))))))))
+refusal p scripts s bytes out = firstOf (refusals p scripts s bytes out) accepted
 
 -- ---- what an accepted record does
 
--- A load opens its connection. A response: its cookies are stored, the connection is freed, then a script runs. For a document that is the
--- script that the record names, and the page is the connection's URL; for a script's request it is the connection's handler, and the page
--- is the one that sent the request. A redirect: its cookies are stored for the old URL's host, and the connection moves to the target.
+-- What arrives on connection n, whose word is given, once its cookies are stored. A response frees the connection, then a script runs: for a
+-- document the script that the record names, and the page is the connection's URL; for a script's request the connection's handler, and the
+-- page is the one that sent the request. A redirect moves the connection to the target.
+unfoldable pub receive : List ℕ → List ℕ → ℕ → ℕ → Arrived → List ℕ → Effects
+receive p scripts n word (DocumentResponse x) s = runScript p scripts n (urlOf word) x 0 (setConnection n free s)
+receive p scripts n word (ScriptResponse v) s = runScript p scripts n (originOf word) (handlerOf word) v (setConnection n free s)
+receive p scripts n word (Redirect t) s = send p n (kindOf word) (originOf word) (handlerOf word) t s
+
+-- A load opens its connection. Of what arrives the cookies are stored first, for the host of the record's URL.
 unfoldable pub perform : List ℕ → List ℕ → List ℕ → Event → Effects
 perform p scripts s (Load u n) = send p n documentKind 0 0 u s
-perform p scripts s (DocumentResponse u n cs x) =
-    let word = connectionWord s n in
-    let stored = storeCookies p n (urlHost p u) cs s in
-    runScript p scripts n (urlOf word) x 0 (setConnection n free stored)
-perform p scripts s (ScriptResponse u n cs v) =
-    let word = connectionWord s n in
-    let stored = storeCookies p n (urlHost p u) cs s in
-    runScript p scripts n (originOf word) (handlerOf word) v (setConnection n free stored)
-perform p scripts s (Redirect u n cs t) =
-    let word = connectionWord s n in
-    let stored = storeCookies p n (urlHost p u) cs s in
-    send p n (kindOf word) (originOf word) (handlerOf word) t stored
+perform p scripts s (Arrival u n cs what) = receive p scripts n (connectionWord s n) what (storeCookies p n (urlHost p u) cs s)
 
 -- a record's number, and what it does
 pub record Outcome : Type 0 where

@@ -109,6 +109,10 @@ fits p n u = within (connectionReaders p n) (urlReaders p u) && holds (connectio
 unfoldable pub mayStore : List ℕ → ℕ → ℕ → Bool
 mayStore p n c = within (cookieReaders p c) (connectionReaders p n) && within (connectionWriters p n) (cookieWriters p c)
 
+-- a request to u may carry the cookies of u's host whose readers hold u's message endpoint
+unfoldable pub mayCarry : List ℕ → ℕ → ℕ → Bool
+mayCarry p u k = holds (cookieReaders p (cookieIndex (urlHost p u) k)) (urlMessage p u)
+
 -- The script of a response on connection n has that connection's script readers and writers: document 01's S and J.
 
 -- step 3: it reads a cookie

@@ -11,11 +11,12 @@ use Rattle.labels.specs.Sets.{holds, meets}
 use Rattle.labels.specs.Addresses.{hosts}
 use Rattle.records.specs.declared.Direction.the-variants.{Input, Request}
 use Rattle.records.specs.declared.Record.{Record}
-use Rattle.records.specs.Codec.{accepted, decoded, readRun}
-use Rattle.machine.specs.Choice.{branch, keep}
+use Rattle.prelude.specs.Refusals.{accepted}
+use Rattle.records.specs.Codec.{decoded, readRun}
+use Rattle.prelude.specs.Choice.{branch, keep}
 use Rattle.machine.specs.Policy.{hostKeys, connections, cookieIndex, urlReaders, cookieReaders, connectionReaders, urlHost, urlMessage, urlEvent, wellFormed}
 use Rattle.machine.specs.Session.{emptyState, cookieValue, present, connectionWord, Cookie}
-use Rattle.machine.specs.Machine.{Event, Load, DocumentResponse, ScriptResponse, Redirect, plainMap, cookiesOf, eventOf, named, outputRoom, feed}
+use Rattle.machine.specs.Machine.{Event, Load, Arrival, plainMap, cookiesOf, eventOf, named, outputRoom, feed}
 
 -- ---- a run (how document 01 feeds a list)
 
@@ -61,9 +62,7 @@ shownCookies set p u cs = keep (λ c. meets (cookieReaders p (cookieIndex (urlHo
 -- With none left it is the one without cookies.
 unfoldable pub shown : ℕ → List ℕ → Event → List Event
 shown set p (Load u n) = branch (meets (urlReaders p u) set) (Load u n ∷ []) []
-shown set p (DocumentResponse u n cs x) = branch (meets (connectionReaders p n) set) (DocumentResponse u n (shownCookies set p u cs) x ∷ []) []
-shown set p (ScriptResponse u n cs v) = branch (meets (connectionReaders p n) set) (ScriptResponse u n (shownCookies set p u cs) v ∷ []) []
-shown set p (Redirect u n cs t) = branch (meets (connectionReaders p n) set) (Redirect u n (shownCookies set p u cs) t ∷ []) []
+shown set p (Arrival u n cs what) = branch (meets (connectionReaders p n) set) (Arrival u n (shownCookies set p u cs) what ∷ []) []
 
 -- a malformed record is struck, and one that 6 fits
 unfoldable pub shownRecord : ℕ → List ℕ → List ℕ → List Event

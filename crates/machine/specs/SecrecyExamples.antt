@@ -10,7 +10,7 @@ use Rattle.records.specs.Codec.{bytesOf}
 use Rattle.machine.specs.Policy.{cookieIndex}
 use Rattle.machine.specs.Session.{cookieValue, Cookie}
 use Rattle.machine.specs.Scripts.{end, constant, writeCookie, sendRequest}
-use Rattle.machine.specs.Machine.{Event, Load, DocumentResponse, ScriptResponse, Redirect}
+use Rattle.machine.specs.Machine.{Arrived, DocumentResponse, ScriptResponse, Redirect, Event, Load, Arrival}
 use Rattle.machine.specs.Cases.{url, cookieLabel, connection, policyWith, scriptsWith, scriptOf, sameNumbers}
 use Rattle.machine.specs.Secrecy.{Item, Trace, run, remaining, Observation, observations}
 
@@ -21,11 +21,14 @@ abbrev pub cookieNumbers : List Cookie → List ℕ
 cookieNumbers [] = []
 cookieNumbers (c ∷ cs) = c .key ∷ c .value ∷ cookieNumbers cs
 
+abbrev pub arrivedNumbers : Arrived → List ℕ
+arrivedNumbers (DocumentResponse x) = 1 ∷ x ∷ []
+arrivedNumbers (ScriptResponse v) = 2 ∷ v ∷ []
+arrivedNumbers (Redirect t) = 3 ∷ t ∷ []
+
 abbrev pub eventNumbers : Event → List ℕ
 eventNumbers (Load u n) = 0 ∷ u ∷ n ∷ []
-eventNumbers (DocumentResponse u n cs x) = 1 ∷ u ∷ n ∷ x ∷ length cs ∷ cookieNumbers cs
-eventNumbers (ScriptResponse u n cs v) = 2 ∷ u ∷ n ∷ v ∷ length cs ∷ cookieNumbers cs
-eventNumbers (Redirect u n cs t) = 3 ∷ u ∷ n ∷ t ∷ length cs ∷ cookieNumbers cs
+eventNumbers (Arrival u n cs what) = arrivedNumbers what ++ (u ∷ n ∷ length cs ∷ cookieNumbers cs)
 
 abbrev pub eventsNumbers : List Event → List ℕ
 eventsNumbers [] = []

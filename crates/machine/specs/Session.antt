@@ -6,13 +6,12 @@ use mathlib.Core.List.{List, [], _∷_, map}
 use lib.Dec.{ltb, eqb}
 use lib.ListN.{length, getD, set, replicate}
 use Rattle.labels.specs.Membership.{allBelow}
-use Rattle.labels.specs.Sets.{holds}
 use Rattle.labels.specs.Addresses.{hosts}
 use Rattle.records.specs.declared.Record.{Record}
 use Rattle.records.specs.Bytes.{bit}
 use Rattle.records.specs.Layout.{keyNumbers, documentRequest, scriptRequest, withCookies}
-use Rattle.machine.specs.Choice.{branch}
-use Rattle.machine.specs.Policy.{hostKeys, connections, cookieIndex, cookieReaders, urlHost, urlMessage, isUrl, fits, mayStore}
+use Rattle.prelude.specs.Choice.{branch}
+use Rattle.machine.specs.Policy.{hostKeys, connections, cookieIndex, urlHost, isUrl, fits, mayStore, mayCarry}
 
 -- ---- the words
 
@@ -143,11 +142,9 @@ unfoldable pub storeCookies : List ℕ → ℕ → ℕ → List Cookie → List 
 storeCookies p n h [] s = s
 storeCookies p n h (c ∷ cs) s = storeCookies p n h cs (storeCookie p n h c s)
 
--- a request to u carries the present cookies of u's host whose readers hold u's message endpoint
+-- a request to u carries the present cookies of u's host that it may carry
 unfoldable pub attaches : List ℕ → List ℕ → ℕ → ℕ → Bool
-attaches p s u k =
-    present s (urlHost p u) k
-    && holds (cookieReaders p (cookieIndex (urlHost p u) k)) (urlMessage p u)
+attaches p s u k = present s (urlHost p u) k && mayCarry p u k
 
 -- ---- connections and requests
 

@@ -12,7 +12,7 @@ use Rattle.labels.proofs.Below.{or-cases}
 use Rattle.machine.specs.Policy.{connections, isUrl}
 use Rattle.machine.specs.Session.{free, stateWords, connectionWord, scriptCount, documentKind, scriptKind, kindOf, originOf, handlerOf, urlOf, documentSound, scriptSound, connectionSound, sound}
 use Rattle.machine.specs.Machine.{pending}
-use Rattle.machine.proofs.Choices.{parts}
+use Rattle.prelude.proofs.Choices.{parts}
 use Rattle.machine.proofs.SoundStates.{sound-of}
 
 -- a third test beside two

@@ -1,31 +1,30 @@
--- The answer of every call: the refusals 1 to 5, each where its test is the first to fail, and the reaction where they all pass. How many bytes
--- a call counts at most. And that lists are of bytes or of words, from each place of theirs.
+-- The answer of every call: each refusal where it is the first that applies, and the reaction to a record that can be read. How many bytes a
+-- call counts at most. And that lists are of bytes or of words, from each place of theirs.
 use Prim.Native.Nat.{ℕ, suc, _^_, _≤_, _<_}
 use native.Mathlib.Nat.{le-trans, mul-le-mul-right}
-use native.Mathlib.Omega.{arith}
-use mathlib.Core.Bool.{Bool, true, false, not}
+use mathlib.Core.Bool.{true}
 use mathlib.Core.List.{List, [], _∷_}
-use mathlib.Core.Path.{_≡_, refl, _∙_}
-use lib.Dec.{T, ltb, eqb, lt→ltb}
-use lib.ListN.{length, getD}
+use mathlib.Core.Path.{_≡_, _∙_}
+use lib.Dec.{T, T-not, ltb, eqb, lt→ltb, eqb→eq}
+use lib.ListN.{length, getD, take}
 use lib.Pow.{areBytes}
 use lib.Ieee.Fits.{and-i}
-use borrow.Author.Tests.{lt-ltb, le-ltb, eq-eqb, ne-eqb}
+use borrow.Author.Tests.{ne-eqb}
+use Rattle.prelude.specs.Choice.{branch}
+use Rattle.prelude.specs.Refusals.{accepted, firstOf}
+use Rattle.prelude.proofs.Choices.{one}
+use Rattle.prelude.proofs.Refusals.{NoneOf, nth, first-is, none-applies, none-applied, refused-on}
 use Rattle.records.specs.declared.Direction.the-variants.{Input, Request}
 use Rattle.records.specs.Layout.{longest}
-use Rattle.records.specs.Codec.{accepted, decoded, writeRun}
+use Rattle.records.specs.Codec.{readRefusals, readRefusal, decoded, writeRun}
 use Rattle.records.proofs.Runs.{all-written}
-use Rattle.machine.specs.Choice.{branch}
-use Rattle.machine.specs.Policy.{wellFormed}
-use Rattle.machine.specs.Session.{sound}
-use Rattle.machine.specs.Scripts.{tableBytes, stopped}
-use Rattle.machine.specs.Machine.{named, awaited, readersAllow, writersAllow, outputShort, policyBad, scriptsBad, stateUnsound, nameUnknown, notAwaited, readersForbid, writersForbid, outputRoom, refusal, perform, outcome, Fed, feed}
+use Rattle.machine.specs.Scripts.{stopped}
+use Rattle.machine.specs.Machine.{outputRoom, lentRefusals, eventRefusals, refusals, refusal, perform, outcome, Fed, feed}
 use Rattle.machine.specs.Guarantees.{refusedWith, areWords}
-use Rattle.machine.proofs.Choices.{is-true}
-use Rattle.machine.proofs.Accepted.{eventIn}
+use Rattle.machine.proofs.Accepted.{eventIn, in-parts}
 use Rattle.machine.proofs.Sending.{sent-fits}
 use Rattle.session.proofs.Outputs.{written-run}
-use Rattle.monitor.specs.Answers.{done, reaction}
+use Rattle.monitor.specs.Answers.{done, byNumber, reaction}
 
 -- ---- bytes and words
 pub bytes-are : (l : List ℕ) → ((i : ℕ) → getD l i 0 < 256) → T (areBytes l)
@@ -35,20 +34,6 @@ bytes-are (b ∷ bs) f = and-i (ltb b 256) (areBytes bs) (lt→ltb b 256 (f 0)) 
 pub words-are : (l : List ℕ) → ((i : ℕ) → getD l i 0 < 2 ^ 32) → T (areWords l)
 words-are [] f = tt
 words-are (w ∷ ws) f = and-i (ltb w (2 ^ 32)) (areWords ws) (lt→ltb w (2 ^ 32) (f 0)) (words-are ws (λ i. f (suc i)))
-
--- ---- the tests of an event
-abbrev number : Bool → Bool → Bool → Bool → ℕ
-number a b c d = branch (not a) nameUnknown (branch (not b) notAwaited (branch (not c) readersForbid (branch (not d) writersForbid accepted)))
-
-by-number : (a b c d : Bool) {s out : List ℕ} {x y : Fed}
-    → ((k : ℕ) → number a b c d ≡ k → (k ≡ accepted → ⊥) → refusedWith k s out ≡ y) → (number a b c d ≡ accepted → x ≡ y)
-    → branch (not a) (refusedWith nameUnknown s out) (branch (not b) (refusedWith notAwaited s out) (branch (not c) (refusedWith readersForbid s out) (branch (not d) (refusedWith writersForbid s out) x))) ≡ y
-unfolding branch
-by-number false b c d f g = f nameUnknown refl (omega arith)
-by-number true false c d f g = f notAwaited refl (omega arith)
-by-number true true false d f g = f readersForbid refl (omega arith)
-by-number true true true false f g = f writersForbid refl (omega arith)
-by-number true true true true f g = g refl
 
 -- ---- a call
 module _ (p scripts s bytes out : List ℕ) where
@@ -75,49 +60,31 @@ module _ (p scripts s bytes out : List ℕ) where
   unfolding feed outcome branch stopped writeRun
   refused k e other = rw (e, ne-eqb k accepted other)
 
-  pub refused-output : length out < outputRoom → refusedWith outputShort s out ≡ feed p scripts s bytes out
-  unfolding refusal branch
-  refused-output l = refused outputShort (rw (lt-ltb (length out) outputRoom l)) (omega arith)
+  -- refusal n of all of them, where it is the first that applies
+  pub refused-by : (n : ℕ) → NoneOf (take n (refusals p scripts s bytes out)) → nth accepted n (refusals p scripts s bytes out) .applies ≡ true
+      → (nth accepted n (refusals p scripts s bytes out) .answer ≡ accepted → ⊥)
+      → refusedWith (nth accepted n (refusals p scripts s bytes out) .answer) s out ≡ feed p scripts s bytes out
+  unfolding refusal
+  refused-by n none test other = refused (nth accepted n (refusals p scripts s bytes out) .answer) (first-is accepted n (refusals p scripts s bytes out) none test) other
 
-  module _ (room : outputRoom ≤ length out) where
-    first : ltb (length out) outputRoom ≡ false
-    first = le-ltb (length out) outputRoom room
+  -- ---- what is lent is not refused
+  module _ (none : NoneOf (lentRefusals p scripts s out)) where
+    from-record : refusal p scripts s bytes out ≡ firstOf (readRefusals Input bytes) (firstOf (eventRefusals p s (eventIn bytes)) accepted)
+    from-record = in-parts p scripts s bytes out ∙ none-applies _ (lentRefusals p scripts s out) none
 
-    pub refused-policy : wellFormed p ≡ false → refusedWith policyBad s out ≡ feed p scripts s bytes out
-    unfolding refusal branch
-    refused-policy e = refused policyBad (rw (first, e)) (omega arith)
+    pub refused-record : (decoded Input bytes .number ≡ accepted → ⊥) → refusedWith (decoded Input bytes .number) s out ≡ feed p scripts s bytes out
+    unfolding decoded readRefusal
+    refused-record other = refused (readRefusal Input bytes) (from-record ∙ refused-on (readRefusals Input bytes) _ other) other
 
-    module _ (formed : T (wellFormed p)) where
-      second : wellFormed p ≡ true
-      second = is-true (wellFormed p) formed
+    from-event : decoded Input bytes .number ≡ accepted → refusal p scripts s bytes out ≡ firstOf (eventRefusals p s (eventIn bytes)) accepted
+    unfolding decoded readRefusal
+    from-event read = from-record ∙ none-applies _ (readRefusals Input bytes) (none-applied (readRefusals Input bytes) tt read)
 
-      pub refused-scripts : (length scripts ≡ tableBytes → ⊥) → refusedWith scriptsBad s out ≡ feed p scripts s bytes out
-      unfolding refusal branch
-      refused-scripts other = refused scriptsBad (rw (first, second, ne-eqb (length scripts) tableBytes other)) (omega arith)
-
-      module _ (table : length scripts ≡ tableBytes) where
-        third : eqb (length scripts) tableBytes ≡ true
-        third = eq-eqb (length scripts) tableBytes table
-
-        pub refused-state : sound p s ≡ false → refusedWith stateUnsound s out ≡ feed p scripts s bytes out
-        unfolding refusal branch
-        refused-state e = refused stateUnsound (rw (first, second, third, e)) (omega arith)
-
-        module _ (good : T (sound p s)) where
-          fourth : sound p s ≡ true
-          fourth = is-true (sound p s) good
-
-          pub refused-record : (decoded Input bytes .number ≡ accepted → ⊥) → refusedWith (decoded Input bytes .number) s out ≡ feed p scripts s bytes out
-          unfolding refusal branch
-          refused-record other = refused (decoded Input bytes .number) (rw (first, second, third, fourth, ne-eqb (decoded Input bytes .number) accepted other)) other
-
-          module _ (read : decoded Input bytes .number ≡ accepted) where
-            event-number : refusal p scripts s bytes out ≡ number (named p (eventIn bytes)) (awaited s (eventIn bytes)) (readersAllow p (eventIn bytes)) (writersAllow p (eventIn bytes))
-            unfolding refusal branch
-            event-number = rw (first, second, third, fourth, eq-eqb (decoded Input bytes .number) accepted read)
-
-            pub reacted : T (areBytes scripts) → T (areWords s) → T (areBytes bytes) → reaction p scripts s (eventIn bytes) out ≡ feed p scripts s bytes out
-            unfolding reaction
-            reacted ts ws bs =
-                by-number (named p (eventIn bytes)) (awaited s (eventIn bytes)) (readersAllow p (eventIn bytes)) (writersAllow p (eventIn bytes))
-                (λ k e. refused k (event-number ∙ e)) (λ e. performed (event-number ∙ e) ts ws bs)
+    pub reacted : decoded Input bytes .number ≡ accepted → T (areBytes scripts) → T (areWords s) → T (areBytes bytes)
+        → reaction p scripts s (eventIn bytes) out ≡ feed p scripts s bytes out
+    unfolding reaction byNumber
+    reacted read ts ws bs =
+        let number = firstOf (eventRefusals p s (eventIn bytes)) accepted in
+        one (λ (x : Fed). x ≡ feed p scripts s bytes out) (eqb number accepted)
+        (λ t. performed (from-event read ∙ eqb→eq number accepted t) ts ws bs)
+        (λ t. refused number (from-event read) (λ e. T-not (eqb number accepted) t (rw e tt)))

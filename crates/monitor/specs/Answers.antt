@@ -1,11 +1,11 @@
 -- An answer of the code with the state and the buffer that it leaves, and what a record that can be read is answered.
 use Prim.Native.Nat.{ℕ}
-use mathlib.Core.Bool.{not}
 use mathlib.Core.List.{List}
-use Rattle.records.specs.Codec.{accepted}
-use Rattle.machine.specs.Choice.{branch}
+use lib.Dec.{eqb}
+use Rattle.prelude.specs.Choice.{branch}
+use Rattle.prelude.specs.Refusals.{accepted, firstOf}
 use Rattle.machine.specs.Session.{Effects}
-use Rattle.machine.specs.Machine.{Event, named, awaited, readersAllow, writersAllow, nameUnknown, notAwaited, readersForbid, writersForbid, perform, Fed}
+use Rattle.machine.specs.Machine.{Event, eventRefusals, perform, Fed}
 use Rattle.machine.specs.Guarantees.{refusedWith}
 use Rattle.session.specs.Output.{output, writeEach}
 use Rattle.monitor.specs.declared.Answer.{Answer}
@@ -23,11 +23,10 @@ done e out =
     let o = writeEach (e .sent) (output 0 out) in
     record { number = accepted; bytes = o .at; steps = e .steps; state = e .state; buffer = o .buffer }
 
--- the numbers from 6 on, and what is done where none applies
+-- a call by its number: refused, or done
+unfoldable pub byNumber : ℕ → List ℕ → List ℕ → Fed → Fed
+byNumber number s out fed = branch (eqb number accepted) fed (refusedWith number s out)
+
+-- what a record that can be read is answered: the first of its event's refusals, or what it does
 unfoldable pub reaction : List ℕ → List ℕ → List ℕ → Event → List ℕ → Fed
-reaction p scripts s event out =
-    branch (not (named p event)) (refusedWith nameUnknown s out)
-    (branch (not (awaited s event)) (refusedWith notAwaited s out)
-    (branch (not (readersAllow p event)) (refusedWith readersForbid s out)
-    (branch (not (writersAllow p event)) (refusedWith writersForbid s out)
-    (done (perform p scripts s event) out))))
+reaction p scripts s event out = byNumber (firstOf (eventRefusals p s event) accepted) s out (done (perform p scripts s event) out)

@@ -3,15 +3,17 @@ ghost use mathlib.Core.Path.{_≡_};
 ghost use mathlib.Core.Bool.{true, not, _&&_};
 ghost use mathlib.Core.List.{List};
 ghost use Prim.Native.Nat.{ℕ, _<_};
-ghost use lib.Dec.{T, eqb};
+ghost use lib.Dec.{eqb};
 ghost use lib.ListN.{length};
-ghost use Rattle.machine.specs.Policy.{connections, urlHost, isUrl, isConnection};
-ghost use Rattle.machine.specs.Session.{free, stateWords, scriptCount, kindOf, originOf, handlerOf, urlOf, sound, setConnection, storeCookies, send};
+ghost use Rattle.machine.specs.Policy.{connections, isUrl, isConnection};
+ghost use Rattle.machine.specs.Session.{free, scriptCount, kindOf, originOf, handlerOf, urlOf, setConnection, send};
 ghost use Rattle.machine.specs.Scripts.{tableBytes, runScript};
 ghost use Rattle.machine.specs.Machine.{Load, DocumentResponse, ScriptResponse, Redirect};
 ghost use Rattle.policy.specs.Given.{WellFormed, Url};
-ghost use Rattle.session.specs.Delivered.{delivered};
+ghost use Rattle.session.specs.Given.{Session};
 ghost use Rattle.monitor.specs.Answers.{fed, done, reaction};
+ghost use Rattle.monitor.specs.Events.{arrival, stored};
+ghost use Rattle.monitor.specs.Given.{Lent, Arriving};
 use super::answers::ACCEPTED;
 use super::answers::Done;
 use super::answers::NAME_UNKNOWN;
@@ -48,7 +50,8 @@ pub struct Delivery {
 // Whether a URL and a connection are named by their numbers.
 fn is_named(policy: &[u32], url: usize, connection: usize) -> bool
     requires { ⌜ WellFormed (now policy) ⌝ }
-    ensures { λ r. ⌜ (r ≡ isUrl (now (policy .entry)) url && isConnection connection) × (r ≡ true → Url (now (policy .entry)) url × (connection < connections)) ⌝ }
+    ensures { λ r. ⌜ (r ≡ isUrl (now (policy .entry)) url && isConnection connection)
+        × (r ≡ true → Url (now (policy .entry)) url × (connection < connections)) ⌝ }
 {
     is_url(policy, url) & (connection < CONNECTIONS)
 }
@@ -67,8 +70,9 @@ pub fn load(
     connection: usize,
     out: &mut [u8],
 ) -> Done
-    requires { ⌜ WellFormed (now policy) × (length (now state) ≡ stateWords) ⌝ }
-    ensures { λ r. ⌜ ((scripts : List ℕ) → fed r (now (state .exit)) (now (out .exit)) ≡ reaction (now (policy .entry)) scripts (now (state .entry)) (Load url connection) (now (out .entry))) ⌝ }
+    requires { ⌜ Session (now policy) (now state) ⌝ }
+    ensures { λ r. ⌜ ((scripts : List ℕ) → fed r (now (state .exit)) (now (out .exit))
+        ≡ reaction (now (policy .entry)) scripts (now (state .entry)) (Load url connection) (now (out .entry))) ⌝ }
 {
     if !is_named(policy, url, connection) {
         return refused(NAME_UNKNOWN);
@@ -103,8 +107,13 @@ fn respond(
     value: u32,
     out: &mut [u8],
 ) -> Done
-    requires { ⌜ WellFormed (now policy) × (length (now scripts) ≡ tableBytes) × (length (now state) ≡ stateWords) × Url (now policy) (from .url) × (from .connection < connections) × Url (now policy) page × (script < scriptCount) ⌝ }
-    ensures { λ r. ⌜ fed r (now (state .exit)) (now (out .exit)) ≡ done (runScript (now (policy .entry)) (now (scripts .entry)) (from .connection) page script value (setConnection (from .connection) free (storeCookies (now (policy .entry)) (from .connection) (urlHost (now (policy .entry)) (from .url)) (delivered (from .keys) (from .cookies)) (now (state .entry))))) (now (out .entry)) ⌝ }
+    requires { ⌜ Arriving (now policy) (now state) from × (length (now scripts) ≡ tableBytes)
+        × Url (now policy) page × (script < scriptCount) ⌝ }
+    ensures { λ r. ⌜ fed r (now (state .exit)) (now (out .exit))
+        ≡ done
+        (runScript (now (policy .entry)) (now (scripts .entry)) (from .connection) page script value
+        (setConnection (from .connection) free (stored (now (policy .entry)) from (now (state .entry)))))
+        (now (out .entry)) ⌝ }
 {
     let connection = from.connection;
     let cookies = from.cookies;
@@ -131,8 +140,9 @@ pub fn document_response(
     script: usize,
     out: &mut [u8],
 ) -> Done
-    requires { ⌜ WellFormed (now policy) × (length (now scripts) ≡ tableBytes) × (length (now state) ≡ stateWords) ⌝ }
-    ensures { λ r. ⌜ fed r (now (state .exit)) (now (out .exit)) ≡ reaction (now (policy .entry)) (now (scripts .entry)) (now (state .entry)) (DocumentResponse (from .url) (from .connection) (delivered (from .keys) (from .cookies)) script) (now (out .entry)) ⌝ }
+    requires { ⌜ Lent (now policy) (now scripts) (now state) ⌝ }
+    ensures { λ r. ⌜ fed r (now (state .exit)) (now (out .exit))
+        ≡ reaction (now (policy .entry)) (now (scripts .entry)) (now (state .entry)) (arrival from (DocumentResponse script)) (now (out .entry)) ⌝ }
 {
     let url = from.url;
     if !is_named(policy, url, from.connection) {
@@ -157,8 +167,9 @@ pub fn script_response(
     value: u32,
     out: &mut [u8],
 ) -> Done
-    requires { ⌜ WellFormed (now policy) × (length (now scripts) ≡ tableBytes) × (length (now state) ≡ stateWords) × T (sound (now policy) (now state)) ⌝ }
-    ensures { λ r. ⌜ fed r (now (state .exit)) (now (out .exit)) ≡ reaction (now (policy .entry)) (now (scripts .entry)) (now (state .entry)) (ScriptResponse (from .url) (from .connection) (delivered (from .keys) (from .cookies)) value) (now (out .entry)) ⌝ }
+    requires { ⌜ Lent (now policy) (now scripts) (now state) ⌝ }
+    ensures { λ r. ⌜ fed r (now (state .exit)) (now (out .exit))
+        ≡ reaction (now (policy .entry)) (now (scripts .entry)) (now (state .entry)) (arrival from (ScriptResponse value)) (now (out .entry)) ⌝ }
 {
     let url = from.url;
     if !is_named(policy, url, from.connection) {
@@ -191,8 +202,12 @@ fn follow(
     target: usize,
     out: &mut [u8],
 ) -> Done
-    requires { ⌜ WellFormed (now policy) × (length (now state) ≡ stateWords) × Url (now policy) (from .url) × (from .connection < connections) × Url (now policy) target ⌝ }
-    ensures { λ r. ⌜ fed r (now (state .exit)) (now (out .exit)) ≡ done (send (now (policy .entry)) (from .connection) (kindOf word) (originOf word) (handlerOf word) target (storeCookies (now (policy .entry)) (from .connection) (urlHost (now (policy .entry)) (from .url)) (delivered (from .keys) (from .cookies)) (now (state .entry)))) (now (out .entry)) ⌝ }
+    requires { ⌜ Arriving (now policy) (now state) from × Url (now policy) target ⌝ }
+    ensures { λ r. ⌜ fed r (now (state .exit)) (now (out .exit))
+        ≡ done
+        (send (now (policy .entry)) (from .connection) (kindOf word) (originOf word) (handlerOf word) target
+        (stored (now (policy .entry)) from (now (state .entry))))
+        (now (out .entry)) ⌝ }
 {
     let connection = from.connection;
     let cookies = from.cookies;
@@ -215,8 +230,9 @@ pub fn redirect(
     target: usize,
     out: &mut [u8],
 ) -> Done
-    requires { ⌜ WellFormed (now policy) × (length (now state) ≡ stateWords) ⌝ }
-    ensures { λ r. ⌜ ((scripts : List ℕ) → fed r (now (state .exit)) (now (out .exit)) ≡ reaction (now (policy .entry)) scripts (now (state .entry)) (Redirect (from .url) (from .connection) (delivered (from .keys) (from .cookies)) target) (now (out .entry))) ⌝ }
+    requires { ⌜ Session (now policy) (now state) ⌝ }
+    ensures { λ r. ⌜ ((scripts : List ℕ) → fed r (now (state .exit)) (now (out .exit))
+        ≡ reaction (now (policy .entry)) scripts (now (state .entry)) (arrival from (Redirect target)) (now (out .entry))) ⌝ }
 {
     let connection = from.connection;
     if !is_named(policy, from.url, connection) {

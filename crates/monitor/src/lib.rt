@@ -29,7 +29,8 @@ pub extern "C" fn monitor_feed(
     bytes: &[u8],
     out: &mut [u8],
 ) -> Answer
-    ensures { λ r. ⌜ answered r (now (state .exit)) (now (out .exit)) ≡ feed (now (policy .entry)) (now (scripts .entry)) (now (state .entry)) (now (bytes .entry)) (now (out .entry)) ⌝ }
+    ensures { λ r. ⌜ answered r (now (state .exit)) (now (out .exit))
+        ≡ feed (now (policy .entry)) (now (scripts .entry)) (now (state .entry)) (now (bytes .entry)) (now (out .entry)) ⌝ }
 {
     let done = feed(policy, scripts, state, bytes, out);
     Answer {

@@ -1,13 +1,9 @@
 // The refusals 1 to 5, in their order, and then what the record's kind asks and does.
 ghost use mathlib.Core.Path.{_≡_};
-ghost use lib.Dec.{T};
-ghost use lib.ListN.{length};
-ghost use Rattle.machine.specs.Session.{stateWords, sound};
-ghost use Rattle.machine.specs.Scripts.{tableBytes};
 ghost use Rattle.machine.specs.Machine.{eventOf, feed};
-ghost use Rattle.policy.specs.Given.{WellFormed};
 ghost use Rattle.monitor.specs.Answers.{fed, reaction};
-ghost use Rattle.monitor.specs.Kinds.{kindOf};
+ghost use Rattle.monitor.specs.Events.{eventKind};
+ghost use Rattle.monitor.specs.Given.{Lent};
 use super::answers::ACCEPTED;
 use super::answers::Done;
 use super::answers::OUTPUT_SHORT;
@@ -22,16 +18,18 @@ use super::events::redirect;
 use super::events::script_response;
 use policy::check::well_formed;
 use records::Direction;
+use records::LONGEST_REQUEST;
 use records::Record;
 use records::map_bytes::DOCUMENT_RESPONSE;
 use records::map_bytes::LOAD;
 use records::map_bytes::SCRIPT_RESPONSE;
 use records::map_bytes::WITH_COOKIES;
+use scripts::STEP_LIMIT;
 use scripts::TABLE_BYTES;
 use session::soundness::sound;
 
-// Room for as many requests as a script can send, each as long as can be: 32 of 37 bytes.
-pub const OUTPUT_ROOM: usize = 1184;
+// Room for as many requests as a script can send, each as long as can be.
+pub const OUTPUT_ROOM: usize = STEP_LIMIT as usize * LONGEST_REQUEST;
 
 // What kind of event a record tells of.
 pub enum EventKind {
@@ -43,7 +41,7 @@ pub enum EventKind {
 
 // By the map byte, without its bit for cookies.
 fn kind_of(map: u8) -> EventKind
-    ensures { λ r. ⌜ r ≡ kindOf map ⌝ }
+    ensures { λ r. ⌜ r ≡ eventKind map ⌝ }
 {
     let plain = map - WITH_COOKIES * (map / WITH_COOKIES % 2);
     if plain == LOAD {
@@ -60,8 +58,9 @@ fn kind_of(map: u8) -> EventKind
 
 // A record that can be read.
 fn react(policy: &[u32], scripts: &[u8], state: &mut [u32], fields: Record, out: &mut [u8]) -> Done
-    requires { ⌜ WellFormed (now policy) × (length (now scripts) ≡ tableBytes) × (length (now state) ≡ stateWords) × T (sound (now policy) (now state)) ⌝ }
-    ensures { λ r. ⌜ fed r (now (state .exit)) (now (out .exit)) ≡ reaction (now (policy .entry)) (now (scripts .entry)) (now (state .entry)) (eventOf fields) (now (out .entry)) ⌝ }
+    requires { ⌜ Lent (now policy) (now scripts) (now state) ⌝ }
+    ensures { λ r. ⌜ fed r (now (state .exit)) (now (out .exit))
+        ≡ reaction (now (policy .entry)) (now (scripts .entry)) (now (state .entry)) (eventOf fields) (now (out .entry)) ⌝ }
 {
     let url = fields.url as usize;
     let connection = fields.connection as usize;
@@ -88,7 +87,8 @@ fn react(policy: &[u32], scripts: &[u8], state: &mut [u32], fields: Record, out:
 }
 
 pub fn feed(policy: &[u32], scripts: &[u8], state: &mut [u32], bytes: &[u8], out: &mut [u8]) -> Done
-    ensures { λ r. ⌜ fed r (now (state .exit)) (now (out .exit)) ≡ feed (now (policy .entry)) (now (scripts .entry)) (now (state .entry)) (now (bytes .entry)) (now (out .entry)) ⌝ }
+    ensures { λ r. ⌜ fed r (now (state .exit)) (now (out .exit))
+        ≡ feed (now (policy .entry)) (now (scripts .entry)) (now (state .entry)) (now (bytes .entry)) (now (out .entry)) ⌝ }
 {
     if out.len() < OUTPUT_ROOM {
         return refused(OUTPUT_SHORT);

@@ -15,7 +15,7 @@ use Rattle.labels.specs.Addresses.{eventSet}
 use Rattle.labels.proofs.Below.{same, all-at, all-of, or-cases, or-l}
 use Rattle.labels.proofs.Endpoints.{event-within}
 use Rattle.labels.proofs.Words.{within-none}
-use Rattle.machine.proofs.Choices.{is-true}
+use Rattle.prelude.proofs.Choices.{is-true}
 use Rattle.machine.specs.Policy.{policyWords, urlRows, connections, urlAddress, urlReaders, urlWriters, urlEvent, noAddress, emptyRow, rowWellFormed, connectionWellFormed, wellFormed, isUrl}
 use Rattle.policy.specs.Given.{WellFormed, Url}
 

@@ -3,9 +3,12 @@
 ghost use mathlib.Core.Path.{_≡_};
 ghost use mathlib.Core.Bool.{true};
 ghost use Prim.Native.Nat.{_<_};
-ghost use Rattle.labels.specs.Addresses.{hosts, messageSet};
-ghost use Rattle.labels.specs.Sets.{holds, within};
-ghost use Rattle.machine.specs.Policy.{hostKeys, connections, cookieIndex, cookieReaders, urlAddress, urlHost, urlMessage, urlEvent, isUrl, fits, mayStore, mayRead, mayWrite, maySend, loadReaders, loadWriters, redirectReaders, redirectWriters};
+ghost use Rattle.labels.specs.Addresses.{hosts};
+ghost use Rattle.labels.specs.Sets.{holds};
+ghost use Rattle.machine.specs.Policy.{hostKeys, connections, cookieIndex, urlHost, urlMessage, urlEvent, isUrl};
+ghost use Rattle.machine.specs.Policy.{fits, mayStore, mayCarry, mayRead, mayWrite, maySend};
+ghost use Rattle.machine.specs.Policy.{loadReaders, loadWriters, redirectReaders, redirectWriters};
+ghost use Rattle.machine.specs.Session.{keyMap};
 ghost use Rattle.policy.specs.Given.{WellFormed, Url};
 
 pub mod check;
@@ -15,6 +18,7 @@ use labels::EndpointSet;
 use labels::LAST_ENDPOINT;
 use labels::addresses::event_set;
 use labels::addresses::message_set;
+use words::HOST_KEYS;
 use words::HOSTS;
 use words::URL_ROWS;
 use words::connection_readers;
@@ -68,20 +72,18 @@ pub fn fits(policy: &[u32], connection: usize, url: usize) -> bool
         & message_in(policy, url, connection_writers(policy, connection))
 }
 
-// The set of a URL's message endpoint, for those who ask of it many times.
-pub fn message_of(policy: &[u32], url: usize) -> EndpointSet
+// The keys of the cookies that a request to a URL may carry, bit k for key k: their readers hold the URL's message endpoint.
+pub fn carried_keys(policy: &[u32], url: usize) -> u8
     requires { ⌜ WellFormed (now policy) × Url (now policy) url ⌝ }
-    ensures { λ r. ⌜ r .bits ≡ messageSet (urlAddress (now (policy .entry)) url) ⌝ }
+    ensures { λ r. ⌜ r ≡ keyMap (mayCarry (now (policy .entry)) url) ⌝ }
 {
-    message_set(url_address(policy, url))
-}
-
-// Whether a request may carry a cookie: its readers hold the message endpoint, whose set is `message`.
-pub fn may_carry(policy: &[u32], message: EndpointSet, host: usize, key: usize) -> bool
-    requires { ⌜ WellFormed (now policy) × (host < hosts) × (key < hostKeys) ⌝ }
-    ensures { λ r. ⌜ r ≡ within (message .bits) (cookieReaders (now (policy .entry)) (cookieIndex host key)) ⌝ }
-{
-    message.within(cookie_readers(policy, host, key))
+    let host = url_host(policy, url);
+    let message = message_set(url_address(policy, url));
+    let mut keys = 0u32;
+    for key in 0..HOST_KEYS {
+        keys = keys + ((message.within(cookie_readers(policy, host, key)) as u32) << key);
+    }
+    keys as u8
 }
 
 // Whether a cookie that a response or redirect on a connection delivers is stored.

@@ -3,7 +3,9 @@ ghost use mathlib.Core.Path.{_≡_};
 ghost use Prim.Native.Nat.{_<_};
 ghost use lib.ListN.{length};
 ghost use Rattle.labels.specs.Addresses.{hosts};
-ghost use Rattle.machine.specs.Policy.{policyWords, urlRows, hostKeys, connections, cookieIndex, urlAddress, urlReaders, urlWriters, cookieReaders, cookieWriters, connectionReaders, scriptReaders, connectionWriters};
+ghost use Rattle.machine.specs.Policy.{policyWords, urlRows, hostKeys, connections, cookieIndex};
+ghost use Rattle.machine.specs.Policy.{urlAddress, urlReaders, urlWriters, cookieReaders, cookieWriters};
+ghost use Rattle.machine.specs.Policy.{connectionReaders, scriptReaders, connectionWriters};
 use labels::EndpointSet;
 
 pub const URL_ROWS: usize = 64;
@@ -15,11 +17,11 @@ pub const HOST_KEYS: usize = 8;
 
 pub const CONNECTIONS: usize = 32;
 
-const COOKIE_LABELS_AT: usize = 192;
+const COOKIE_LABELS_AT: usize = 3 * URL_ROWS;
 
-const CONNECTION_LABELS_AT: usize = 448;
+const CONNECTION_LABELS_AT: usize = COOKIE_LABELS_AT + 2 * (HOSTS * HOST_KEYS);
 
-pub const WORDS: usize = 544;
+pub const WORDS: usize = CONNECTION_LABELS_AT + 3 * CONNECTIONS;
 
 pub fn url_address(policy: &[u32], url: usize) -> u32
     requires { ⌜ (length (now policy) ≡ policyWords) × (url < urlRows) ⌝ }

@@ -6,13 +6,13 @@ use native.Mathlib.Omega.{arith}
 use mathlib.Core.Path.{_≡_, refl, sym, ap, _∙_}
 use mathlib.Core.Bool.{_&&_, and-true, and-assoc}
 use mathlib.Core.List.{List, [], _∷_, _++_, map, append-assoc, append-nil}
-use lib.Bits.{bitOr, or-zero-l, or-add-and, and-le-r}
-use lib.Dec.{eqb, ltb, eqb·suc-zero}
-use borrow.Author.Tests.{ne-eqb}
+use lib.Bits.{bitOr}
+use lib.Dec.{eqb, ltb}
 use lib.ListN.{length, getD, take, drop, set, length-set}
 use lib.Seq.{drop-cons, drop-drop, take-suc-set, take-all, sets, length-sets}
+use Rattle.prelude.proofs.Bits.{or-zero}
 use Rattle.records.specs.Bytes.{bit, number, digits}
-use Rattle.records.specs.Layout.{keyNumbers, widths, sum, join, split, fits}
+use Rattle.records.specs.Layout.{keyNumbers, widths, sum, join, split, fitWidths}
 use Rattle.records.specs.Places.{cookieWidths}
 use Rattle.records.proofs.Digits.{length-digits}
 
@@ -108,15 +108,12 @@ module _ (before : List ℕ) (at keys : ℕ) (values : List ℕ) where
   writing-ends out next w = w .remains
 
 -- two numbers joined by "or" are 0 just where both are
-pub or-zero : (a b : ℕ) → eqb (bitOr a b) 0 ≡ eqb a 0 && eqb b 0
-or-zero zero b = rw (or-zero-l b)
-or-zero (suc a) b = rw (eqb·suc-zero a) (ne-eqb (bitOr (suc a) b) 0 (λ e. omega (arith, or-add-and (suc a) b, and-le-r (suc a) b)))
 
 -- testing: what was met so far is 0 and the values from here on fit, just where all do
 pub record Testing (keys : ℕ) (values : List ℕ) (met key : ℕ) : Type 0 where
   pub below : key ≤ 8
   pub eight : length values ≡ 8
-  pub remains : eqb met 0 && fits (drop key (cookieWidths keys)) (drop key values) ≡ fits (cookieWidths keys) values
+  pub remains : eqb met 0 && fitWidths (drop key (cookieWidths keys)) (drop key values) ≡ fitWidths (cookieWidths keys) values
 
 module _ (keys : ℕ) (values : List ℕ) where
   pub testing-begins : length values ≡ 8 → Testing keys values 0 0
@@ -124,7 +121,7 @@ module _ (keys : ℕ) (values : List ℕ) where
 
   pub testing-goes-on : (met key stray : ℕ) → key < 8 → Testing keys values met key
       → eqb stray 0 ≡ ltb (getD values key 0) (256 ^ (4 * bit keys key)) → Testing keys values (bitOr met stray) (key + 1)
-  unfolding fits
+  unfolding fitWidths
   testing-goes-on met key stray l t e =
       rw (add-one key) (record {
         below = l;
@@ -134,6 +131,6 @@ module _ (keys : ℕ) (values : List ℕ) where
             (rw (widths-from keys key l, drop-cons values key 0 (rw (t .eight) l)) at (t .remains));
       })
 
-  pub testing-ends : (met : ℕ) → Testing keys values met 8 → eqb met 0 ≡ fits (cookieWidths keys) values
-  unfolding fits cookieWidths widths
+  pub testing-ends : (met : ℕ) → Testing keys values met 8 → eqb met 0 ≡ fitWidths (cookieWidths keys) values
+  unfolding fitWidths cookieWidths widths
   testing-ends met t = sym (and-true (eqb met 0)) ∙ t .remains

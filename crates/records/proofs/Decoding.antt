@@ -1,13 +1,16 @@
--- What decoding answers at each of its tests.
+-- What decoding answers at each of its tests, and what acceptance says of them.
 use Prim.Native.Nat.{ℕ}
 use mathlib.Core.Path.{_≡_, refl}
-use mathlib.Core.Bool.{Bool, true, false, or-true, cond}
+use mathlib.Core.Bool.{Bool, true, false, not, _||_, or-true, true≢false}
 use mathlib.Core.List.{List}
-use lib.ListN.{length}
-use borrow.Author.Tests.{eq-eqb, ne-eqb}
+use lib.ListN.{length, take}
+use lib.Dec.{eqb}
+use borrow.Author.Tests.{eqb-true, eq-eqb, ne-eqb, not-false}
+use Rattle.prelude.specs.Refusals.{accepted}
+use Rattle.prelude.proofs.Refusals.{NoneOf, nth, first-is, none-applies, none-applied}
 use Rattle.records.specs.declared.Direction.{Direction}
 use Rattle.records.specs.Layout.{maps, widths, size}
-use Rattle.records.specs.Codec.{accepted, malformed, refused, isOneOf, keysMissing, mapOf, keysOf, mapUnknown, keysZero, lengthOther, readRefusal, fieldsOf, decoded}
+use Rattle.records.specs.Codec.{malformed, refused, isOneOf, keysMissing, mapOf, keysOf, mapUnknown, keysZero, lengthOther, readRefusals, readRefusal, fieldsOf, decoded}
 use Rattle.records.specs.Places.{start}
 
 -- the place after the last field is the length
@@ -15,35 +18,36 @@ pub end-is-size : (m keys : ℕ) → start 14 m keys ≡ size m keys
 unfolding start size widths
 end-is-size m keys = refl
 
--- whichever test refuses, the answer is the same
-either : (b : Bool) → cond b malformed malformed ≡ malformed
-either true = refl
-either false = refl
-
 module _ (d : Direction) (bytes : List ℕ) where
-  refuses : readRefusal d bytes ≡ malformed → refused ≡ decoded d bytes
-  unfolding decoded
-  refuses e = rw e
+  -- refusal n, where it is the first that applies
+  pub refused-by : (n : ℕ) → NoneOf (take n (readRefusals d bytes)) → nth accepted n (readRefusals d bytes) .applies ≡ true
+      → nth accepted n (readRefusals d bytes) .answer ≡ malformed → refused ≡ decoded d bytes
+  unfolding decoded readRefusal
+  refused-by n none e number = rw (first-is accepted n (readRefusals d bytes) none e, number)
 
-  pub refused-empty : length bytes ≡ 0 → refused ≡ decoded d bytes
-  unfolding readRefusal mapUnknown
-  refused-empty e = refuses (rw (eq-eqb (length bytes) 0 e))
+  pub map-empty : length bytes ≡ 0 → mapUnknown d bytes ≡ true
+  unfolding mapUnknown
+  map-empty e = rw (eq-eqb (length bytes) 0 e)
 
-  pub refused-map : isOneOf (mapOf bytes) (maps d) ≡ false → refused ≡ decoded d bytes
-  unfolding readRefusal mapUnknown
-  refused-map e = refuses (rw (e, or-true))
+  pub map-unknown : isOneOf (mapOf bytes) (maps d) ≡ false → mapUnknown d bytes ≡ true
+  unfolding mapUnknown
+  map-unknown e = rw (e, or-true)
 
-  pub refused-keys : keysMissing (mapOf bytes) (keysOf bytes) ≡ true → refused ≡ decoded d bytes
-  unfolding readRefusal keysZero
-  refused-keys e = refuses (rw e (either (mapUnknown d bytes)))
+  pub map-known : (length bytes ≡ 0 → ⊥) → isOneOf (mapOf bytes) (maps d) ≡ true → mapUnknown d bytes ≡ false
+  unfolding mapUnknown
+  map-known ne e = rw (ne-eqb (length bytes) 0 ne, e)
 
-  pub refused-length : (length bytes ≡ size (mapOf bytes) (keysOf bytes) → ⊥) → refused ≡ decoded d bytes
-  unfolding readRefusal lengthOther
-  refused-length ne = refuses (rw (ne-eqb (length bytes) (size (mapOf bytes) (keysOf bytes)) ne, either (keysZero bytes)) (either (mapUnknown d bytes)))
+  pub keys-zero : (b : Bool) → keysMissing (mapOf bytes) (keysOf bytes) ≡ b → keysZero bytes ≡ b
+  unfolding keysZero
+  keys-zero b e = e
 
-  pub no-refusal : mapUnknown d bytes ≡ false → keysZero bytes ≡ false → lengthOther bytes ≡ false → readRefusal d bytes ≡ accepted
-  unfolding readRefusal
-  no-refusal x y z = rw (x, y, z)
+  pub length-other : (length bytes ≡ size (mapOf bytes) (keysOf bytes) → ⊥) → lengthOther bytes ≡ true
+  unfolding lengthOther
+  length-other ne = rw (ne-eqb (length bytes) (size (mapOf bytes) (keysOf bytes)) ne)
+
+  pub length-right : length bytes ≡ size (mapOf bytes) (keysOf bytes) → lengthOther bytes ≡ false
+  unfolding lengthOther
+  length-right e = rw (eq-eqb (length bytes) (size (mapOf bytes) (keysOf bytes)) e)
 
   pub decoded-accepted : readRefusal d bytes ≡ accepted → decoded d bytes ≡ record { number = accepted; fields = fieldsOf bytes }
   unfolding decoded
@@ -51,5 +55,26 @@ module _ (d : Direction) (bytes : List ℕ) where
 
   pub accepts : (length bytes ≡ 0 → ⊥) → isOneOf (mapOf bytes) (maps d) ≡ true → keysMissing (mapOf bytes) (keysOf bytes) ≡ false
       → length bytes ≡ size (mapOf bytes) (keysOf bytes) → readRefusal d bytes ≡ accepted
-  unfolding mapUnknown keysZero lengthOther
-  accepts ne known keyed e = no-refusal (rw (ne-eqb (length bytes) 0 ne, known)) keyed (rw (eq-eqb (length bytes) (size (mapOf bytes) (keysOf bytes)) e))
+  unfolding readRefusal
+  accepts ne known keyed e =
+      none-applies accepted (readRefusals d bytes) (map-known ne known, (keys-zero false keyed, (length-right e, tt)))
+
+-- ---- what acceptance says: every test passed
+
+or-false : (x y : Bool) → x || not y ≡ false → (x ≡ false) × (y ≡ true)
+or-false true y e = absurd (true≢false e)
+or-false false true e = (refl, refl)
+or-false false false e = absurd (true≢false e)
+
+module _ (d : Direction) (bytes : List ℕ) (e : readRefusal d bytes ≡ accepted) where
+  pub read-tests : NoneOf (readRefusals d bytes)
+  unfolding readRefusal
+  read-tests = none-applied (readRefusals d bytes) tt e
+
+  pub known : (eqb (length bytes) 0 ≡ false) × (isOneOf (mapOf bytes) (maps d) ≡ true)
+  unfolding mapUnknown
+  known = or-false (eqb (length bytes) 0) (isOneOf (mapOf bytes) (maps d)) (read-tests .0)
+
+  pub right-length : length bytes ≡ size (mapOf bytes) (keysOf bytes)
+  unfolding lengthOther
+  right-length = eqb-true (length bytes) (size (mapOf bytes) (keysOf bytes)) (not-false (eqb (length bytes) (size (mapOf bytes) (keysOf bytes))) (read-tests .1 .1 .0))

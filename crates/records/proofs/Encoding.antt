@@ -15,11 +15,13 @@ use Rattle.records.specs.declared.Direction.{Direction}
 use Rattle.records.specs.declared.Direction.the-variants.{Input, Request}
 use Rattle.records.specs.declared.Record.{Record}
 use Rattle.records.specs.Bytes.{bit}
-use Rattle.records.specs.Layout.{keyNumbers, maps, longest, widths, sum, fits, values, size}
-use Rattle.records.specs.Codec.{accepted, noRoom, malformed, isOneOf, keysMissing, carriable, bytesOf, writeRefusal, encoded}
+use Rattle.records.specs.Layout.{keyNumbers, maps, longest, widths, sum, fitWidths, values, size}
+use Rattle.prelude.specs.Refusals.{accepted}
+use Rattle.prelude.proofs.Refusals.{first-is, none-applies}
+use Rattle.records.specs.Codec.{noRoom, malformed, isOneOf, keysMissing, carriable, bytesOf, writeRefusals, writeRefusal, encoded}
 use Rattle.records.specs.Places.{frontWidths, cookieWidths, backWidths}
 use Rattle.records.proofs.Joining.{length-join}
-use Rattle.records.proofs.Cookies.{or-zero}
+use Rattle.prelude.proofs.Bits.{or-zero}
 use Rattle.records.proofs.Writing.{widths-split, values-split, size-split, front-sum, front-count, cookie-count}
 
 pub counted : (r : Record) → length (values r) ≡ length (widths (r .map) (r .keys))
@@ -67,20 +69,20 @@ size-longest d m keys h =
 
 -- ---- the test of the fields
 
-fits-append : (ws us vs xs : List ℕ) → length vs ≡ length ws → fits (ws ++ us) (vs ++ xs) ≡ fits ws vs && fits us xs
-unfolding fits
+fits-append : (ws us vs xs : List ℕ) → length vs ≡ length ws → fitWidths (ws ++ us) (vs ++ xs) ≡ fitWidths ws vs && fitWidths us xs
+unfolding fitWidths
 fits-append [] us [] xs e = refl
 fits-append [] us (v ∷ vs) xs e = absurd (omega arith)
 fits-append (w ∷ ws) us [] xs e = absurd (omega arith)
-fits-append (w ∷ ws) us (v ∷ vs) xs e = rw (fits-append ws us vs xs (ap pred e)) (sym (and-assoc (ltb v (256 ^ w)) (fits ws vs) (fits us xs)))
+fits-append (w ∷ ws) us (v ∷ vs) xs e = rw (fits-append ws us vs xs (ap pred e)) (sym (and-assoc (ltb v (256 ^ w)) (fitWidths ws vs) (fitWidths us xs)))
 
 module _ (r : Record) (eight : length (r .cookies) ≡ 8) where
   abbrev m : ℕ
   m = r .map
 
-  in-three : fits (widths m (r .keys)) (values r)
-      ≡ fits (frontWidths m) (r .url ∷ r .connection ∷ r .keys ∷ [])
-      && (fits (cookieWidths (r .keys)) (r .cookies) && fits (backWidths m) (r .script ∷ r .value ∷ r .target ∷ []))
+  in-three : fitWidths (widths m (r .keys)) (values r)
+      ≡ fitWidths (frontWidths m) (r .url ∷ r .connection ∷ r .keys ∷ [])
+      && (fitWidths (cookieWidths (r .keys)) (r .cookies) && fitWidths (backWidths m) (r .script ∷ r .value ∷ r .target ∷ []))
   in-three =
       rw (widths-split m (r .keys), values-split r eight, fits-append (frontWidths m) (cookieWidths (r .keys) ++ backWidths m) (r .url ∷ r .connection ∷ r .keys ∷ []) (r .cookies ++ (r .script ∷ r .value ∷ r .target ∷ [])) (front-count r eight), fits-append (cookieWidths (r .keys)) (backWidths m) (r .cookies) (r .script ∷ r .value ∷ r .target ∷ []) (cookie-count r eight))
 
@@ -88,12 +90,12 @@ module _ (r : Record) (eight : length (r .cookies) ≡ 8) where
       → eqb u 0 ≡ ltb (r .url) (256 ^ (1 * bit m 0))
       → eqb c 0 ≡ ltb (r .connection) (256 ^ (1 * bit m 1))
       → eqb k 0 ≡ ltb (r .keys) (256 ^ (1 * bit m 2))
-      → eqb cs 0 ≡ fits (cookieWidths (r .keys)) (r .cookies)
+      → eqb cs 0 ≡ fitWidths (cookieWidths (r .keys)) (r .cookies)
       → eqb s 0 ≡ ltb (r .script) (256 ^ (1 * bit m 3))
       → eqb v 0 ≡ ltb (r .value) (256 ^ (4 * bit m 4))
       → eqb t 0 ≡ ltb (r .target) (256 ^ (1 * bit m 5))
-      → eqb (bitOr (bitOr (bitOr (bitOr (bitOr (bitOr u c) k) cs) s) v) t) 0 ≡ fits (widths m (r .keys)) (values r)
-  unfolding fits frontWidths backWidths widths
+      → eqb (bitOr (bitOr (bitOr (bitOr (bitOr (bitOr u c) k) cs) s) v) t) 0 ≡ fitWidths (widths m (r .keys)) (values r)
+  unfolding fitWidths frontWidths backWidths widths
   all-fit u c k cs s v t eu ec ek ecs es ev et = rw in-three (simp (or-zero, eu, ec, ek, ecs, es, ev, et, and-assoc, and-true))
 
 -- ---- the answers
@@ -102,30 +104,30 @@ module _ (r : Record) (eight : length (r .cookies) ≡ 8) where
 module _ (d : Direction) (r : Record) (ok : T (carriable d r)) where
   pub known : T (isOneOf (r .map) (maps d))
   unfolding carriable
-  known = and-l (isOneOf (r .map) (maps d)) (not (keysMissing (r .map) (r .keys)) && fits (widths (r .map) (r .keys)) (values r)) ok
+  known = and-l (isOneOf (r .map) (maps d)) (not (keysMissing (r .map) (r .keys)) && fitWidths (widths (r .map) (r .keys)) (values r)) ok
 
-  others : T (not (keysMissing (r .map) (r .keys)) && fits (widths (r .map) (r .keys)) (values r))
+  others : T (not (keysMissing (r .map) (r .keys)) && fitWidths (widths (r .map) (r .keys)) (values r))
   unfolding carriable
-  others = and-r (isOneOf (r .map) (maps d)) (not (keysMissing (r .map) (r .keys)) && fits (widths (r .map) (r .keys)) (values r)) ok
+  others = and-r (isOneOf (r .map) (maps d)) (not (keysMissing (r .map) (r .keys)) && fitWidths (widths (r .map) (r .keys)) (values r)) ok
 
   pub keyed : T (not (keysMissing (r .map) (r .keys)))
-  keyed = and-l (not (keysMissing (r .map) (r .keys))) (fits (widths (r .map) (r .keys)) (values r)) others
+  keyed = and-l (not (keysMissing (r .map) (r .keys))) (fitWidths (widths (r .map) (r .keys)) (values r)) others
 
-  pub fitting : T (fits (widths (r .map) (r .keys)) (values r))
-  fitting = and-r (not (keysMissing (r .map) (r .keys))) (fits (widths (r .map) (r .keys)) (values r)) others
+  pub fitting : T (fitWidths (widths (r .map) (r .keys)) (values r))
+  fitting = and-r (not (keysMissing (r .map) (r .keys))) (fitWidths (widths (r .map) (r .keys)) (values r)) others
 
 module _ (d : Direction) (r : Record) (out : List ℕ) where
   pub no-room : length out < longest d → record { number = noRoom; length = 0; buffer = out } ≡ encoded d r out
   unfolding encoded writeRefusal
-  no-room l = rw (lt-ltb (length out) (longest d) l)
+  no-room l = rw (first-is accepted 0 (writeRefusals d r out) tt (lt-ltb (length out) (longest d) l))
 
   pub not-carriable : longest d ≤ length out → carriable d r ≡ false → record { number = malformed; length = 0; buffer = out } ≡ encoded d r out
   unfolding encoded writeRefusal
-  not-carriable l e = rw (le-ltb (length out) (longest d) l, e)
+  not-carriable l e = rw (first-is accepted 1 (writeRefusals d r out) (le-ltb (length out) (longest d) l, tt) (rw e))
 
   pub no-write-refusal : longest d ≤ length out → carriable d r ≡ true → writeRefusal d r out ≡ accepted
   unfolding writeRefusal
-  no-write-refusal l e = rw (le-ltb (length out) (longest d) l, e)
+  no-write-refusal l e = none-applies accepted (writeRefusals d r out) (le-ltb (length out) (longest d) l, (rw e, tt))
 
   pub encoded-accepted : writeRefusal d r out ≡ accepted
       → encoded d r out ≡ record { number = accepted; length = length (bytesOf r); buffer = bytesOf r ++ drop (length (bytesOf r)) out }

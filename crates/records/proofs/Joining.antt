@@ -12,7 +12,7 @@ use lib.Ieee.Fits.{and-i}
 use store.Enc.{and-l, and-r}
 use Rattle.records.specs.declared.Record.{Record}
 use Rattle.records.specs.Bytes.{number, digits}
-use Rattle.records.specs.Layout.{sum, join, split, fits, values, fromValues}
+use Rattle.records.specs.Layout.{sum, join, split, fitWidths, values, fromValues}
 use Rattle.records.proofs.Digits.{length-digits, number-digits, number-lt, digits-number}
 
 -- bytes of a part of a list of bytes
@@ -39,15 +39,15 @@ unfolding split
 length-split [] bytes = refl
 length-split (w ∷ ws) bytes = ap suc (length-split ws (drop w bytes))
 
-pub split-join : (ws vs rest : List ℕ) → length vs ≡ length ws → T (fits ws vs) → split ws (join ws vs ++ rest) ≡ vs
-unfolding split join fits
+pub split-join : (ws vs rest : List ℕ) → length vs ≡ length ws → T (fitWidths ws vs) → split ws (join ws vs ++ rest) ≡ vs
+unfolding split join fitWidths
 split-join [] [] rest e h = refl
 split-join [] (v ∷ vs) rest e h = absurd (omega arith)
 split-join (w ∷ ws) [] rest e h = absurd (omega arith)
 split-join (w ∷ ws) (v ∷ vs) rest e h =
     rw (append-assoc (digits w v) (join ws vs) rest, take-at (digits w v) (join ws vs ++ rest) w (length-digits w v), drop-at (digits w v) (join ws vs ++ rest) w (length-digits w v))
-    (ap₂ _∷_ (number-digits w v ∙ mod-eq-of-lt (ltb→lt v (256 ^ w) (and-l (ltb v (256 ^ w)) (fits ws vs) h)))
-    (split-join ws vs rest (ap pred e) (and-r (ltb v (256 ^ w)) (fits ws vs) h)))
+    (ap₂ _∷_ (number-digits w v ∙ mod-eq-of-lt (ltb→lt v (256 ^ w) (and-l (ltb v (256 ^ w)) (fitWidths ws vs) h)))
+    (split-join ws vs rest (ap pred e) (and-r (ltb v (256 ^ w)) (fitWidths ws vs) h)))
 
 module _ (w : ℕ) (ws bytes : List ℕ) (h : T (areBytes bytes)) (l : w + sum ws ≤ length bytes) where
   head-length : length (take w bytes) ≡ w
@@ -70,11 +70,11 @@ join-split (w ∷ ws) bytes h e =
     ap₂ _++_ (head-digits w ws bytes h (omega arith)) (join-split ws (drop w bytes) (drop-bytes w bytes h) (simp length-drop (omega arith)))
     ∙ take-append-drop w bytes
 
-pub fits-split : (ws bytes : List ℕ) → T (areBytes bytes) → sum ws ≤ length bytes → T (fits ws (split ws bytes))
-unfolding split fits
+pub fits-split : (ws bytes : List ℕ) → T (areBytes bytes) → sum ws ≤ length bytes → T (fitWidths ws (split ws bytes))
+unfolding split fitWidths
 fits-split [] bytes h l = tt
 fits-split (w ∷ ws) bytes h l =
-    and-i (ltb (number (take w bytes)) (256 ^ w)) (fits ws (split ws (drop w bytes)))
+    and-i (ltb (number (take w bytes)) (256 ^ w)) (fitWidths ws (split ws (drop w bytes)))
     (lt→ltb (number (take w bytes)) (256 ^ w) (head-fits w ws bytes h l))
     (fits-split ws (drop w bytes) (drop-bytes w bytes h) (tail-length w ws bytes h l))
 

@@ -5,7 +5,7 @@ use native.Mathlib.Omega.{arith}
 use mathlib.Core.Path.{_≡_, refl, sym, ap, _∙_}
 use mathlib.Core.Bool.{Bool, true, false, not, _||_, cond, true≢false}
 use mathlib.Core.List.{List, [], _∷_, _++_, append-nil}
-use lib.Dec.{T, eqb, ltb, eqb·suc-zero}
+use lib.Dec.{T, eqb, eqb·suc-zero, nltb→le}
 use lib.ListN.{length, take, drop, length-drop, length-append}
 use lib.Seq.{take-at, drop-at, take-nil, drop-cons, take-append-add}
 use lib.Pow.{areBytes}
@@ -13,28 +13,18 @@ use borrow.Author.Tests.{eqb-true, not-false}
 use Rattle.records.specs.declared.Direction.{Direction}
 use Rattle.records.specs.declared.Record.{Record}
 use Rattle.records.specs.Layout.{maps, longest, widths, sum, join, split, values, fromValues, size}
-use Rattle.records.specs.Codec.{accepted, noRoom, malformed, isOneOf, keysMissing, mapOf, keysOf, mapUnknown, keysZero, lengthOther, readRefusal, fieldsOf, decoded, carriable, bytesOf, Written, writeRefusal, encoded, firstRecord, readAtMost, readRun, writeRun, followedBy}
+use Rattle.prelude.specs.Choice.{branch}
+use Rattle.prelude.specs.Refusals.{accepted, firstOf}
+use Rattle.prelude.proofs.Choices.{is-true, is-false, passes}
+use Rattle.prelude.proofs.Refusals.{NoneOf, none-applied}
+use Rattle.records.specs.Codec.{isOneOf, keysMissing, mapOf, keysOf, mapUnknown, keysZero, lengthOther, readRefusals, readRefusal, fieldsOf, decoded, carriable, bytesOf, Written, writeRefusals, writeRefusal, encoded, firstRecord, readAtMost, readRun, writeRun, followedBy}
 use Rattle.records.specs.RoundTrips.{EightCookies, WrittenIsRead, ReadIsWritten, RunIsRead, AllEightCookies, LongestIs}
 use Rattle.records.proofs.Values.{keys-first, same-keys}
-use Rattle.records.proofs.Decoding.{decoded-accepted, accepts}
-use Rattle.records.proofs.Encoding.{counted, known, keyed, fitting, bytes-length, encoded-accepted, no-write-refusal}
+use Rattle.records.proofs.Decoding.{decoded-accepted, accepts, read-tests, known, right-length}
+use Rattle.records.proofs.Encoding.{counted, known as mapped, keyed, fitting, bytes-length, encoded-accepted, no-write-refusal}
 use Rattle.records.proofs.Joining.{length-split, split-join, join-split, fits-split, drop-bytes, values-from, from-values}
 
-pub passed : (b : Bool) → T b → b ≡ true
-passed true t = refl
-passed false t = absurd t
-
-failed : (b : Bool) → T (not b) → b ≡ false
-failed true t = absurd t
-failed false t = refl
-
--- ---- the refusals, and what is accepted where none fits
-
-each-fails : (x y z : Bool) → cond x malformed (cond y malformed (cond z malformed accepted)) ≡ accepted → (x ≡ false) × (y ≡ false) × (z ≡ false)
-each-fails true y z e = absurd (omega arith)
-each-fails false true z e = absurd (omega arith)
-each-fails false false true e = absurd (omega arith)
-each-fails false false false e = (refl, refl, refl)
+-- ---- the refusals, and what is accepted where none applies
 
 number-is : (d : Direction) (r : Record) (out : List ℕ) → encoded d r out .number ≡ writeRefusal d r out
 unfolding encoded
@@ -50,14 +40,16 @@ number-is d r out = go (writeRefusal d r out)
     go zero = refl
     go (suc n) = rw (eqb·suc-zero n)
 
-pub written-carriable : (d : Direction) (r : Record) (out : List ℕ) → writeRefusal d r out ≡ accepted → T (carriable d r)
-unfolding writeRefusal
-written-carriable d r out = go (ltb (length out) (longest d)) (carriable d r)
-  where
-    go : (x y : Bool) → cond x noRoom (cond y accepted malformed) ≡ accepted → T y
-    go true y e = absurd (omega arith)
-    go false true e = tt
-    go false false e = absurd (omega arith)
+module _ (d : Direction) (r : Record) (out : List ℕ) (e : writeRefusal d r out ≡ accepted) where
+  write-tests : NoneOf (writeRefusals d r out)
+  unfolding writeRefusal
+  write-tests = none-applied (writeRefusals d r out) tt e
+
+  pub written-room : longest d ≤ length out
+  written-room = nltb→le (length out) (longest d) (rw (write-tests .0) tt)
+
+  pub written-carriable : T (carriable d r)
+  written-carriable = passes (carriable d r) (write-tests .1 .0)
 
 -- ---- bytes that begin with a record that encoding accepts
 module _ (d : Direction) (r : Record) (eight : EightCookies r) (ok : T (carriable d r)) where
@@ -92,8 +84,8 @@ module _ (d : Direction) (r : Record) (eight : EightCookies r) (ok : T (carriabl
   accepted-back : readRefusal d (bytesOf r) ≡ accepted
   accepted-back =
       accepts d (bytesOf r) nonempty
-      (rw map-alone (passed (isOneOf (r .map) (maps d)) (known d r ok)))
-      (rw (map-alone, keys-alone) (failed (keysMissing (r .map) (r .keys)) (keyed d r ok)))
+      (rw map-alone (is-true (isOneOf (r .map) (maps d)) (mapped d r ok)))
+      (rw (map-alone, keys-alone) (is-false (keysMissing (r .map) (r .keys)) (keyed d r ok)))
       (rw (map-alone, keys-alone) (bytes-length r))
 
   tail-parted : fromValues (r .map) (split (widths (r .map) (r .keys)) (drop 1 (bytesOf r))) ≡ r
@@ -117,34 +109,17 @@ written-is-read d r out eight e =
 
 -- ---- bytes that decoding accepts
 
-or-false : (x y : Bool) → x || not y ≡ false → (x ≡ false) × (y ≡ true)
-or-false true y e = absurd (true≢false e)
-or-false false true e = (refl, refl)
-or-false false false e = absurd (true≢false e)
-
 positive : (n : ℕ) → eqb n 0 ≡ false → 0 < n
 positive zero e = absurd (true≢false e)
 positive (suc n) e = zero-lt-suc n
 
 module _ (d : Direction) (bytes : List ℕ) (h : T (areBytes bytes)) (e : readRefusal d bytes ≡ accepted) where
-  tests : (mapUnknown d bytes ≡ false) × (keysZero bytes ≡ false) × (lengthOther bytes ≡ false)
-  unfolding readRefusal
-  tests = each-fails (mapUnknown d bytes) (keysZero bytes) (lengthOther bytes) e
-
-  known-map : (eqb (length bytes) 0 ≡ false) × (isOneOf (mapOf bytes) (maps d) ≡ true)
-  unfolding mapUnknown
-  known-map = or-false (eqb (length bytes) 0) (isOneOf (mapOf bytes) (maps d)) (tests .0)
-
-  right-length : length bytes ≡ size (mapOf bytes) (keysOf bytes)
-  unfolding lengthOther
-  right-length = eqb-true (length bytes) (size (mapOf bytes) (keysOf bytes)) (not-false (eqb (length bytes) (size (mapOf bytes) (keysOf bytes))) (tests .2))
-
   apart : List ℕ
   apart = split (widths (mapOf bytes) (keysOf bytes)) (drop 1 bytes)
 
   as-many : sum (widths (mapOf bytes) (keysOf bytes)) ≡ length (drop 1 bytes)
   unfolding size
-  as-many = simp length-drop (omega (arith, right-length))
+  as-many = simp length-drop (omega (arith, right-length d bytes e))
 
   same-map : fieldsOf bytes .map ≡ mapOf bytes
   unfolding fieldsOf fromValues
@@ -158,18 +133,18 @@ module _ (d : Direction) (bytes : List ℕ) (h : T (areBytes bytes)) (e : readRe
   unfolding bytesOf apart
   whole =
       rw (same-values, same-map, same-keys bytes, join-split (widths (mapOf bytes) (keysOf bytes)) (drop 1 bytes) (drop-bytes 1 bytes h) as-many)
-      (sym (drop-cons bytes 0 0 (positive (length bytes) (known-map .0))))
+      (sym (drop-cons bytes 0 0 (positive (length bytes) (known d bytes e .0))))
 
   pub carried-back : T (carriable d (fieldsOf bytes))
   unfolding carriable keysZero apart
   carried-back =
-      rw (same-values, same-map, same-keys bytes, known-map .1, tests .1)
+      rw (same-values, same-map, same-keys bytes, known d bytes e .1, read-tests d bytes e .1 .0)
       (fits-split (widths (mapOf bytes) (keysOf bytes)) (drop 1 bytes) (drop-bytes 1 bytes h) (omega (arith, as-many)))
 
   pub encodes : (out : List ℕ) → longest d ≤ length out
       → encoded d (fieldsOf bytes) out ≡ record { number = accepted; length = length bytes; buffer = bytes ++ drop (length bytes) out }
   encodes out l =
-      encoded-accepted d (fieldsOf bytes) out (no-write-refusal d (fieldsOf bytes) out l (passed (carriable d (fieldsOf bytes)) carried-back))
+      encoded-accepted d (fieldsOf bytes) out (no-write-refusal d (fieldsOf bytes) out l (is-true (carriable d (fieldsOf bytes)) carried-back))
       ∙ ap (λ (b : List ℕ). record { number = accepted; length = length b; buffer = b ++ drop (length b) out }) whole
 
 pub read-is-written : ReadIsWritten
@@ -188,7 +163,7 @@ pub data AllCarriable (d : Direction) : List Record → Type 0 where
   more : {r : Record} {rs : List Record} → EightCookies r → T (carriable d r) → AllCarriable d rs → AllCarriable d (r ∷ rs)
 
 nothing-left : (n : ℕ) (d : Direction) → readAtMost n d [] ≡ record { records = []; left = [] }
-unfolding readAtMost decoded readRefusal mapUnknown firstRecord
+unfolding readAtMost decoded readRefusal firstOf branch mapUnknown firstRecord
 nothing-left zero d = refl
 nothing-left (suc n) d = rw (take-nil (size (mapOf []) (keysOf [])))
 

@@ -5,16 +5,18 @@ use native.Mathlib.Omega.{arith}
 use mathlib.Core.Path.{_≡_, refl, sym, ap, _∙_}
 use mathlib.Core.Bool.{Bool, true, false, not, cond}
 use mathlib.Core.List.{List, [], _∷_, _++_}
-use lib.Dec.{T, eqb, ltb, eqb→eq, nltb→le}
+use lib.Dec.{T, eqb, eqb→eq}
 use lib.ListN.{length, take, drop, length-append, length-drop}
 use lib.Seq.{drop-append-seam, drop-append-add, drop-at, drop-drop, length-take-le}
 use Rattle.records.specs.declared.Direction.{Direction}
 use Rattle.records.specs.declared.Record.{Record}
 use Rattle.records.specs.Layout.{longest}
-use Rattle.records.specs.Codec.{accepted, noRoom, malformed, carriable, bytesOf, Written, writeRefusal, encoded, readRun, writeRun, followedBy}
+use Rattle.prelude.specs.Refusals.{accepted}
+use Rattle.prelude.proofs.Choices.{is-true}
+use Rattle.records.specs.Codec.{carriable, bytesOf, Written, writeRefusal, encoded, readRun, writeRun, followedBy}
 use Rattle.records.specs.RoundTrips.{AllEightCookies}
 use Rattle.records.proofs.Encoding.{known, bytes-length, size-longest, encoded-accepted, no-write-refusal}
-use Rattle.records.proofs.RoundTrips.{AllCarriable, none, more, passed, written-carriable, run-is-read}
+use Rattle.records.proofs.RoundTrips.{AllCarriable, none, more, written-room, written-carriable, run-is-read}
 
 -- ---- what is past the counted bytes
 
@@ -41,14 +43,6 @@ module _ (out : List ℕ) where
       )
 
 module _ (d : Direction) where
-  written-room : (r : Record) (out : List ℕ) → writeRefusal d r out ≡ accepted → longest d ≤ length out
-  unfolding writeRefusal
-  written-room r out e = nltb→le (length out) (longest d) (go (ltb (length out) (longest d)) (carriable d r) e)
-    where
-      go : (x y : Bool) → cond x noRoom (cond y accepted malformed) ≡ accepted → T (not x)
-      go true y e = absurd (omega arith)
-      go false y e = tt
-
   carriable-fits : (r : Record) → T (carriable d r) → length (bytesOf r) ≤ longest d
   carriable-fits r ok = omega (arith, bytes-length r, size-longest d (r .map) (r .keys) (known d r ok))
 
@@ -59,7 +53,7 @@ module _ (d : Direction) where
       whole : writeRefusal d r out ≡ accepted
           → Kept out (record { number = accepted; length = length (bytesOf r); buffer = bytesOf r ++ drop (length (bytesOf r)) out })
       whole a =
-          let l : length (bytesOf r) ≤ length out = omega (arith, carriable-fits r (written-carriable d r out a), written-room r out a) in
+          let l : length (bytesOf r) ≤ length out = omega (arith, carriable-fits r (written-carriable d r out a), written-room d r out a) in
           (l, simp (length-append, length-drop) (omega arith), drop-append-seam (bytesOf r) (drop (length (bytesOf r)) out))
 
   pub run-kept : (rs : List Record) (out : List ℕ) → Kept out (writeRun d rs out)
@@ -85,7 +79,7 @@ module _ (d : Direction) where
   all-written (more {r} {rs} eight ok all) out l =
       let fit : length (bytesOf r) ≤ longest d = carriable-fits r ok in
       let rest = all-written all (drop (length (bytesOf r)) out) (simp length-drop (omega arith)) in
-      rw (encoded-accepted d r out (no-write-refusal d r out (omega arith) (passed (carriable d r) ok)), drop-at (bytesOf r) (drop (length (bytesOf r)) out) (length (bytesOf r)) refl)
+      rw (encoded-accepted d r out (no-write-refusal d r out (omega arith) (is-true (carriable d r) ok)), drop-at (bytesOf r) (drop (length (bytesOf r)) out) (length (bytesOf r)) refl)
       (rest .0, omega arith)
 
   -- carriable records are read back where the buffer has room for as many of the longest

@@ -4,17 +4,15 @@ use mathlib.Core.Bool.{Bool, false, not, _&&_, _||_, cond}
 use mathlib.Core.List.{List, [], _∷_, _++_, map}
 use lib.Dec.{ltb, eqb}
 use lib.ListN.{length, getD, take, drop, replicate}
+use Rattle.prelude.specs.Refusals.{accepted, Refusal, refuse, firstOf}
 use Rattle.records.specs.declared.Direction.{Direction}
 use Rattle.records.specs.declared.Record.{Record}
 use Rattle.records.specs.declared.Decoded.{Decoded}
 use Rattle.records.specs.declared.Encoded.{Encoded}
 use Rattle.records.specs.Bytes.{bit}
-use Rattle.records.specs.Layout.{cookiesBit, maps, widths, size, longest, join, split, fits, values, fromValues}
+use Rattle.records.specs.Layout.{cookiesBit, maps, widths, size, longest, join, split, fitWidths, values, fromValues}
 
--- the numbers that decoding and encoding answer
-abbrev pub accepted : ℕ
-accepted = 0
-
+-- the numbers of their refusals
 abbrev pub noRoom : ℕ
 noRoom = 1
 
@@ -57,13 +55,15 @@ keysZero bytes = keysMissing (mapOf bytes) (keysOf bytes)
 unfoldable pub lengthOther : List ℕ → Bool
 lengthOther bytes = not (eqb (length bytes) (size (mapOf bytes) (keysOf bytes)))
 
--- the first that fits
+abbrev pub readRefusals : Direction → List ℕ → List (Refusal ℕ)
+readRefusals d bytes =
+    refuse malformed (mapUnknown d bytes)
+    ∷ refuse malformed (keysZero bytes)
+    ∷ refuse malformed (lengthOther bytes)
+    ∷ []
+
 unfoldable pub readRefusal : Direction → List ℕ → ℕ
-readRefusal d bytes =
-    cond (mapUnknown d bytes) malformed
-    (cond (keysZero bytes) malformed
-    (cond (lengthOther bytes) malformed
-    accepted))
+readRefusal d bytes = firstOf (readRefusals d bytes) accepted
 
 unfoldable pub fieldsOf : List ℕ → Record
 fieldsOf bytes = fromValues (mapOf bytes) (split (widths (mapOf bytes) (keysOf bytes)) (drop 1 bytes))
@@ -79,7 +79,7 @@ unfoldable pub carriable : Direction → Record → Bool
 carriable d r =
     isOneOf (r .map) (maps d)
     && (not (keysMissing (r .map) (r .keys))
-    && fits (widths (r .map) (r .keys)) (values r))
+    && fitWidths (widths (r .map) (r .keys)) (values r))
 
 unfoldable pub bytesOf : Record → List ℕ
 bytesOf r = r .map ∷ join (widths (r .map) (r .keys)) (values r)
@@ -94,9 +94,15 @@ pub record Written : Type 0 where
 abbrev pub written : Encoded → List ℕ → Written
 written answer out = record { number = answer .number; length = answer .length; buffer = out }
 
--- the first refusal that fits: a buffer below the longest record, however short this one is; fields that no map carries
+-- what is refused: a buffer below the longest record, however short this one is; fields that no map carries
+abbrev pub writeRefusals : Direction → Record → List ℕ → List (Refusal ℕ)
+writeRefusals d r out =
+    refuse noRoom (ltb (length out) (longest d))
+    ∷ refuse malformed (not (carriable d r))
+    ∷ []
+
 unfoldable pub writeRefusal : Direction → Record → List ℕ → ℕ
-writeRefusal d r out = cond (ltb (length out) (longest d)) noRoom (cond (carriable d r) accepted malformed)
+writeRefusal d r out = firstOf (writeRefusals d r out) accepted
 
 -- document 01: the writer
 unfoldable pub encoded : Direction → Record → List ℕ → Written

@@ -121,10 +121,10 @@ split [] bytes = []
 split (w ∷ ws) bytes = number (take w bytes) ∷ split ws (drop w bytes)
 
 -- each value fits its width; one that is not carried has width 0, and so is 0
-unfoldable pub fits : List ℕ → List ℕ → Bool
-fits [] vs = true
-fits (w ∷ ws) [] = true
-fits (w ∷ ws) (v ∷ vs) = ltb v (256 ^ w) && fits ws vs
+unfoldable pub fitWidths : List ℕ → List ℕ → Bool
+fitWidths [] vs = true
+fitWidths (w ∷ ws) [] = true
+fitWidths (w ∷ ws) (v ∷ vs) = ltb v (256 ^ w) && fitWidths ws vs
 
 -- the value of a part
 abbrev valueOf : Record → Part → ℕ

@@ -9,7 +9,8 @@ use Rattle.records.specs.declared.Direction.{Direction}
 use Rattle.records.specs.declared.Direction.the-variants.{Input, Request}
 use Rattle.records.specs.declared.Record.{Record}
 use Rattle.records.specs.Layout.{longest}
-use Rattle.records.specs.Codec.{accepted, decoded, encoded, writeRun, readRun}
+use Rattle.prelude.specs.Refusals.{accepted}
+use Rattle.records.specs.Codec.{decoded, encoded, writeRun, readRun}
 
 -- a record as the type of the code has it: the array of cookie values has eight
 abbrev pub EightCookies : Record → Type 0

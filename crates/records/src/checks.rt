@@ -2,7 +2,7 @@
 ghost use mathlib.Core.Path.{_≡_};
 ghost use Prim.Native.Nat.{ℕ, _*_, _^_, _<_};
 ghost use lib.Dec.{eqb, ltb};
-ghost use Rattle.records.specs.Layout.{maps, longest, widths, values, fits};
+ghost use Rattle.records.specs.Layout.{maps, longest, widths, values, fitWidths};
 ghost use Rattle.records.specs.Codec.{isOneOf, keysMissing, carriable};
 ghost use Rattle.records.specs.Places.{cookieWidths};
 use super::Direction;
@@ -33,13 +33,22 @@ pub fn is_map(direction: Direction, map: u8) -> bool
     }
 }
 
+// The longest records have the map byte, URL, connection, and cookies with every key; an input then has a value, and a request a handler.
+const FRONT: usize = 3;
+
+const ALL_COOKIES: usize = 1 + 4 * 8;
+
+pub const LONGEST_INPUT: usize = FRONT + ALL_COOKIES + 4;
+
+pub const LONGEST_REQUEST: usize = FRONT + ALL_COOKIES + 1;
+
 // How many bytes the longest record of a direction has.
 pub fn longest(direction: Direction) -> usize
     ensures { λ r. ⌜ r ≡ longest direction ⌝ }
 {
     match direction {
-        Direction::Input => 40,
-        Direction::Request => 37,
+        Direction::Input => LONGEST_INPUT,
+        Direction::Request => LONGEST_REQUEST,
     }
 }
 
@@ -67,7 +76,7 @@ fn stray(on: usize, v: u32) -> u32
 
 // The same of the eight cookie values.
 fn stray_cookies(keys: u8, values: [u32; 8]) -> u32
-    ensures { λ r. ⌜ eqb r 0 ≡ fits (cookieWidths keys) values ⌝ }
+    ensures { λ r. ⌜ eqb r 0 ≡ fitWidths (cookieWidths keys) values ⌝ }
 {
     let mut all = 0u32;
     for key in 0..8 {
@@ -78,7 +87,7 @@ fn stray_cookies(keys: u8, values: [u32; 8]) -> u32
 
 // Whether the fields that are not carried are all 0.
 fn fields_fit(fields: Record) -> bool
-    ensures { λ r. ⌜ r ≡ fits (widths (fields .map) (fields .keys)) (values fields) ⌝ }
+    ensures { λ r. ⌜ r ≡ fitWidths (widths (fields .map) (fields .keys)) (values fields) ⌝ }
 {
     let map = fields.map;
     let keys = fields.keys;

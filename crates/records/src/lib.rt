@@ -9,6 +9,8 @@ mod fields;
 pub mod map_bytes;
 mod places;
 
+pub use checks::LONGEST_INPUT;
+pub use checks::LONGEST_REQUEST;
 use checks::carriable;
 use checks::is_map;
 use checks::keys_missing;

@@ -6,7 +6,7 @@ use mathlib.Core.List.{List, [], _∷_, _++_}
 use mathlib.Core.Path.{_≡_, refl, sym, ap, _∙_}
 use lib.ListN.{length}
 use borrow.Author.Tests.{lt-ltb, le-ltb}
-use Rattle.machine.specs.Choice.{branch}
+use Rattle.prelude.specs.Choice.{branch}
 use Rattle.machine.specs.Session.{stateWords, Effects}
 use Rattle.machine.specs.Scripts.{scriptSteps, registerCount, Step, stepLimit, startingWith, stepAt, step, stopped, followed, runFrom}
 use Rattle.records.specs.declared.Record.{Record}

@@ -1,12 +1,9 @@
 // The interpreter of scripts (document 01, "Scripts"): it is lent the 128 bytes of one script, the state and the output.
 ghost use mathlib.Core.Path.{_≡_};
-ghost use Prim.Native.Nat.{_<_};
 ghost use lib.ListN.{length};
-ghost use Rattle.machine.specs.Policy.{connections};
-ghost use Rattle.machine.specs.Session.{stateWords};
 ghost use Rattle.machine.specs.Scripts.{scriptBytes, stepLimit, startingWith, stepAt, runFrom};
-ghost use Rattle.policy.specs.Given.{WellFormed, Url};
 ghost use Rattle.session.specs.Output.{output};
+ghost use Rattle.scripts.specs.Given.{Script};
 ghost use Rattle.scripts.specs.Reached.{ran, finished};
 
 mod position;
@@ -24,7 +21,7 @@ pub const SCRIPT_BYTES: usize = 4 * SCRIPT_STEPS;
 pub const TABLE_BYTES: usize = SCRIPTS * SCRIPT_BYTES;
 
 // The most steps that a script runs: none goes back, so as many as it has.
-const STEP_LIMIT: u32 = 32;
+pub const STEP_LIMIT: u32 = SCRIPT_STEPS as u32;
 
 // What a run answers: how many steps it met, and how many bytes of requests it wrote.
 pub struct Ran {
@@ -42,8 +39,11 @@ pub fn run(
     value: u32,
     out: &mut [u8],
 ) -> Ran
-    requires { ⌜ WellFormed (now policy) × (length (now state) ≡ stateWords) × (length (now code) ≡ scriptBytes) × (connection < connections) × Url (now policy) page ⌝ }
-    ensures { λ r. ⌜ ran r (now (state .exit)) (now (out .exit)) ≡ finished 0 (runFrom stepLimit (stepAt (now (code .entry))) (now (policy .entry)) connection page 0 (startingWith value) (now (state .entry))) (output 0 (now (out .entry))) ⌝ }
+    requires { ⌜ Script (now policy) (now state) connection page × (length (now code) ≡ scriptBytes) ⌝ }
+    ensures { λ r. ⌜ ran r (now (state .exit)) (now (out .exit))
+        ≡ finished 0
+        (runFrom stepLimit (stepAt (now (code .entry))) (now (policy .entry)) connection page 0 (startingWith value) (now (state .entry)))
+        (output 0 (now (out .entry))) ⌝ }
 {
     let mut position = Position::START;
     let mut registers = [value, 0, 0, 0];

@@ -4,12 +4,14 @@ ghost use mathlib.Core.List.{List};
 ghost use Prim.Native.Nat.{ℕ, _<_, _≤_};
 ghost use lib.ListN.{length, getD};
 ghost use Rattle.labels.specs.Addresses.{hosts};
-ghost use Rattle.machine.specs.Choice.{branch};
+ghost use Rattle.prelude.specs.Choice.{branch};
 ghost use Rattle.machine.specs.Policy.{hostKeys, connections, cookieIndex, mayWrite};
-ghost use Rattle.machine.specs.Session.{stateWords, setCookie};
-ghost use Rattle.machine.specs.Scripts.{scriptBytes, scriptSteps, registerCount, constant, add, readCookie, writeCookie, sendRequest, skipIfZero, step, stepAt, goesOn};
-ghost use Rattle.policy.specs.Given.{WellFormed, Url};
+ghost use Rattle.machine.specs.Session.{setCookie};
+ghost use Rattle.machine.specs.Scripts.{scriptBytes, scriptSteps, registerCount, step, stepAt, goesOn};
+ghost use Rattle.machine.specs.Scripts.{constant, add, readCookie, writeCookie, sendRequest, skipIfZero};
+ghost use Rattle.session.specs.Given.{Session};
 ghost use Rattle.session.specs.Output.{output};
+ghost use Rattle.scripts.specs.Given.{Script};
 ghost use Rattle.scripts.specs.Reached.{reached, after};
 use super::position::Position;
 use super::position::REGISTERS;
@@ -32,7 +34,9 @@ use std::num::wrapping_add_u32;
 // Step 1.
 fn constant(registers: &mut [u32], position: Position, register: usize, value: u32) -> Position
     requires { ⌜ (length (now registers) ≡ registerCount) × (position .place < scriptSteps) ⌝ }
-    ensures { λ r. ⌜ ((p s : List ℕ) (n page : ℕ) → goesOn (r .place) (now (registers .exit)) s ≡ step p n page (constant register value) (position .place) (now (registers .entry)) s) × (r .written ≡ position .written) ⌝ }
+    ensures { λ r. ⌜ ((p s : List ℕ) (n page : ℕ) → goesOn (r .place) (now (registers .exit)) s
+        ≡ step p n page (constant register value) (position .place) (now (registers .entry)) s)
+        × (r .written ≡ position .written) ⌝ }
 {
     if register < REGISTERS {
         registers[register] = value;
@@ -50,7 +54,9 @@ fn add(
     right: usize,
 ) -> Position
     requires { ⌜ (length (now registers) ≡ registerCount) × (position .place < scriptSteps) ⌝ }
-    ensures { λ r. ⌜ ((p s : List ℕ) (n page : ℕ) → goesOn (r .place) (now (registers .exit)) s ≡ step p n page (add register left right) (position .place) (now (registers .entry)) s) × (r .written ≡ position .written) ⌝ }
+    ensures { λ r. ⌜ ((p s : List ℕ) (n page : ℕ) → goesOn (r .place) (now (registers .exit)) s
+        ≡ step p n page (add register left right) (position .place) (now (registers .entry)) s)
+        × (r .written ≡ position .written) ⌝ }
 {
     if (register < REGISTERS) & ((left < REGISTERS) & (right < REGISTERS)) {
         registers[register] = wrapping_add_u32(registers[left], registers[right]);
@@ -62,7 +68,9 @@ fn add(
 // Step 6.
 fn skip_if_zero(registers: &[u32], position: Position, register: usize, count: usize) -> Position
     requires { ⌜ (length (now registers) ≡ registerCount) × (position .place < scriptSteps) × (count < 256) ⌝ }
-    ensures { λ r. ⌜ ((p s : List ℕ) (n page : ℕ) → goesOn (r .place) (now (registers .entry)) s ≡ step p n page (skipIfZero register count) (position .place) (now (registers .entry)) s) × (r .written ≡ position .written) ⌝ }
+    ensures { λ r. ⌜ ((p s : List ℕ) (n page : ℕ) → goesOn (r .place) (now (registers .entry)) s
+        ≡ step p n page (skipIfZero register count) (position .place) (now (registers .entry)) s)
+        × (r .written ≡ position .written) ⌝ }
 {
     if REGISTERS <= register {
         return position.ended();
@@ -84,8 +92,11 @@ fn read_cookie(
     register: usize,
     key: usize,
 ) -> Position
-    requires { ⌜ WellFormed (now policy) × (length (now state) ≡ stateWords) × (connection < connections) × Url (now policy) page × (length (now registers) ≡ registerCount) × (position .place < scriptSteps) ⌝ }
-    ensures { λ r. ⌜ (goesOn (r .place) (now (registers .exit)) (now (state .entry)) ≡ step (now (policy .entry)) connection page (readCookie register key) (position .place) (now (registers .entry)) (now (state .entry))) × (r .written ≡ position .written) ⌝ }
+    requires { ⌜ Script (now policy) (now state) connection page
+        × (length (now registers) ≡ registerCount) × (position .place < scriptSteps) ⌝ }
+    ensures { λ r. ⌜ (goesOn (r .place) (now (registers .exit)) (now (state .entry))
+        ≡ step (now (policy .entry)) connection page (readCookie register key) (position .place) (now (registers .entry)) (now (state .entry)))
+        × (r .written ≡ position .written) ⌝ }
 {
     if HOST_KEYS <= key {
         return position.ended();
@@ -109,8 +120,11 @@ fn set_if_allowed(
     key: usize,
     value: u32,
 )
-    requires { ⌜ WellFormed (now policy) × (length (now state) ≡ stateWords) × (connection < connections) × (host < hosts) × (key < hostKeys) ⌝ }
-    ensures { λ _. ⌜ now (state .exit) ≡ branch (mayWrite (now (policy .entry)) connection (cookieIndex host key)) (setCookie host key value (now (state .entry))) (now (state .entry)) ⌝ }
+    requires { ⌜ Session (now policy) (now state) × (connection < connections) × (host < hosts) × (key < hostKeys) ⌝ }
+    ensures { λ _. ⌜ now (state .exit)
+        ≡ branch (mayWrite (now (policy .entry)) connection (cookieIndex host key))
+        (setCookie host key value (now (state .entry)))
+        (now (state .entry)) ⌝ }
 {
     if may_write(policy, connection, host, key) {
         set_cookie(state, host, key, value);
@@ -128,8 +142,11 @@ fn write_cookie(
     key: usize,
     register: usize,
 ) -> Position
-    requires { ⌜ WellFormed (now policy) × (length (now state) ≡ stateWords) × (connection < connections) × Url (now policy) page × (length (now registers) ≡ registerCount) × (position .place < scriptSteps) ⌝ }
-    ensures { λ r. ⌜ (goesOn (r .place) (now (registers .entry)) (now (state .exit)) ≡ step (now (policy .entry)) connection page (writeCookie key register) (position .place) (now (registers .entry)) (now (state .entry))) × (r .written ≡ position .written) ⌝ }
+    requires { ⌜ Script (now policy) (now state) connection page
+        × (length (now registers) ≡ registerCount) × (position .place < scriptSteps) ⌝ }
+    ensures { λ r. ⌜ (goesOn (r .place) (now (registers .entry)) (now (state .exit))
+        ≡ step (now (policy .entry)) connection page (writeCookie key register) (position .place) (now (registers .entry)) (now (state .entry)))
+        × (r .written ≡ position .written) ⌝ }
 {
     if HOST_KEYS <= key {
         return position.ended();
@@ -154,8 +171,13 @@ fn send_request(
     handler: usize,
     out: &mut [u8],
 ) -> Position
-    requires { ⌜ WellFormed (now policy) × (length (now state) ≡ stateWords) × (connection < connections) × Url (now policy) page × (position .place < scriptSteps) × (position .written ≤ length (now out)) ⌝ }
-    ensures { λ r. ⌜ ((rs : List ℕ) → reached r rs (now (state .exit)) (now (out .exit)) ≡ after (step (now (policy .entry)) connection page (sendRequest url via handler) (position .place) rs (now (state .entry))) (output (position .written) (now (out .entry)))) × (r .written ≤ length (now (out .entry))) ⌝ }
+    requires { ⌜ Script (now policy) (now state) connection page
+        × (position .place < scriptSteps) × (position .written ≤ length (now out)) ⌝ }
+    ensures { λ r. ⌜ ((rs : List ℕ) → reached r rs (now (state .exit)) (now (out .exit))
+        ≡ after
+        (step (now (policy .entry)) connection page (sendRequest url via handler) (position .place) rs (now (state .entry)))
+        (output (position .written) (now (out .entry))))
+        × (r .written ≤ length (now (out .entry))) ⌝ }
 {
     if !is_url(policy, url) {
         return position.ended();
@@ -197,8 +219,15 @@ pub fn step(
     position: Position,
     out: &mut [u8],
 ) -> Position
-    requires { ⌜ WellFormed (now policy) × (length (now state) ≡ stateWords) × (length (now code) ≡ scriptBytes) × (connection < connections) × Url (now policy) page × (length (now registers) ≡ registerCount) × (position .place < scriptSteps) × (position .written ≤ length (now out)) ⌝ }
-    ensures { λ r. ⌜ (reached r (now (registers .exit)) (now (state .exit)) (now (out .exit)) ≡ after (step (now (policy .entry)) connection page (stepAt (now (code .entry)) (position .place)) (position .place) (now (registers .entry)) (now (state .entry))) (output (position .written) (now (out .entry)))) × (r .written ≤ length (now (out .entry))) ⌝ }
+    requires { ⌜ Script (now policy) (now state) connection page
+        × (length (now code) ≡ scriptBytes) × (length (now registers) ≡ registerCount)
+        × (position .place < scriptSteps) × (position .written ≤ length (now out)) ⌝ }
+    ensures { λ r. ⌜ (reached r (now (registers .exit)) (now (state .exit)) (now (out .exit))
+        ≡ after
+        (step (now (policy .entry)) connection page (stepAt (now (code .entry)) (position .place)) (position .place)
+        (now (registers .entry)) (now (state .entry)))
+        (output (position .written) (now (out .entry))))
+        × (r .written ≤ length (now (out .entry))) ⌝ }
 {
     let at = 4 * position.place;
     let op = byte(code, at);

@@ -8,8 +8,8 @@ use lib.Dec.{T, eqb, eqb→eq}
 use Rattle.labels.specs.Membership.{allBelow}
 use Rattle.labels.proofs.Below.{all-at, all-of, four}
 use Rattle.machine.specs.Session.{free, connectionWord, connectionSound}
-use Rattle.machine.proofs.Choices.{is-true}
-use Rattle.session.proofs.SoundStates.{free-sound}
+use Rattle.prelude.proofs.Choices.{is-true}
+use Rattle.session.proofs.ConnectionTests.{free-sound}
 
 -- four words that are 0, by twos
 pub four-free : (n : ℕ) (f : ℕ → ℕ) → (eqb (f n) 0 && eqb (f (n + 1)) 0) && (eqb (f (n + 2)) 0 && eqb (f (n + 2 + 1)) 0) ≡ allBelow 4 (λ i. eqb (f (n + i)) 0)

@@ -1,7 +1,6 @@
 pub mod Fours
-pub mod KeyBits
 pub mod KeyLoops
 pub mod Made
 pub mod Outputs
-pub mod SoundStates
+pub mod ConnectionTests
 pub mod Strays

@@ -10,7 +10,8 @@ use lib.ListN.{length, take, drop, length-append, length-drop, drop-of-length-le
 use lib.Seq.{take-all, take-append-seam, drop-append-seam}
 use Rattle.records.specs.declared.Direction.the-variants.{Request}
 use Rattle.records.specs.declared.Record.{Record}
-use Rattle.records.specs.Codec.{accepted, bytesOf, Written, writeRefusal, encoded, writeRun}
+use Rattle.prelude.specs.Refusals.{accepted}
+use Rattle.records.specs.Codec.{bytesOf, Written, writeRefusal, encoded, writeRun}
 use Rattle.records.proofs.Encoding.{encoded-accepted}
 use Rattle.records.proofs.RoundTrips.{after, first-accepted, first-written}
 use Rattle.records.proofs.Runs.{encoded-kept}

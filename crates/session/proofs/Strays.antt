@@ -13,12 +13,12 @@ use lib.Ieee.Fits.{and-i}
 use lib.ListN.{length, getD, set, drop, drop-of-length-le}
 use lib.Seq.{drop-cons}
 use store.Enc.{and-l, and-r}
-use Rattle.records.proofs.Cookies.{or-zero}
+use Rattle.prelude.proofs.Bits.{or-zero}
 use Rattle.labels.specs.Membership.{allBelow}
 use Rattle.labels.proofs.Below.{same, all-next, all-eight}
 use Rattle.machine.specs.Policy.{hostKeys}
 use Rattle.machine.specs.Session.{presence, has, cookieSound, hostSound}
-use Rattle.machine.proofs.Choices.{joined}
+use Rattle.prelude.proofs.Choices.{joined}
 use Rattle.session.specs.Strays.{noneLeft}
 
 sooner : (a b c : Bool) → a && (b && c) ≡ b && (a && c)

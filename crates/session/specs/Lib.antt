@@ -1,3 +1,4 @@
+pub mod Given
 pub mod Delivered
 pub mod Output
 pub mod Kinds

@@ -3,10 +3,10 @@ ghost use mathlib.Core.Path.{_≡_};
 ghost use Prim.Native.Nat.{_<_};
 ghost use lib.ListN.{length};
 ghost use Rattle.labels.specs.Addresses.{hosts};
-ghost use Rattle.machine.specs.Choice.{branch};
+ghost use Rattle.prelude.specs.Choice.{branch};
 ghost use Rattle.machine.specs.Policy.{hostKeys, connections};
 ghost use Rattle.machine.specs.Session.{stateWords, present, has, setCookie, storeCookie, storeCookies};
-ghost use Rattle.policy.specs.Given.{WellFormed};
+ghost use Rattle.session.specs.Given.{Session};
 ghost use Rattle.session.specs.Delivered.{delivered, cookie};
 use super::words::PRESENCE_AT;
 use super::words::presence;
@@ -47,8 +47,9 @@ fn store_cookie(
     key: usize,
     value: u32,
 )
-    requires { ⌜ WellFormed (now policy) × (length (now state) ≡ stateWords) × (connection < connections) × (host < hosts) × (key < hostKeys) ⌝ }
-    ensures { λ _. ⌜ now (state .exit) ≡ storeCookie (now (policy .entry)) connection host (cookie key value) (now (state .entry)) ⌝ }
+    requires { ⌜ Session (now policy) (now state) × (connection < connections) × (host < hosts) × (key < hostKeys) ⌝ }
+    ensures { λ _. ⌜ now (state .exit)
+        ≡ storeCookie (now (policy .entry)) connection host (cookie key value) (now (state .entry)) ⌝ }
 {
     if may_store(policy, connection, host, key) {
         set_cookie(state, host, key, value);
@@ -65,8 +66,11 @@ fn store_if_delivered(
     key: usize,
     value: u32,
 )
-    requires { ⌜ WellFormed (now policy) × (length (now state) ≡ stateWords) × (connection < connections) × (host < hosts) × (key < hostKeys) ⌝ }
-    ensures { λ _. ⌜ now (state .exit) ≡ branch (has keys key) (storeCookie (now (policy .entry)) connection host (cookie key value) (now (state .entry))) (now (state .entry)) ⌝ }
+    requires { ⌜ Session (now policy) (now state) × (connection < connections) × (host < hosts) × (key < hostKeys) ⌝ }
+    ensures { λ _. ⌜ now (state .exit)
+        ≡ branch (has keys key)
+        (storeCookie (now (policy .entry)) connection host (cookie key value) (now (state .entry)))
+        (now (state .entry)) ⌝ }
 {
     if has(keys as u32, key) {
         store_cookie(policy, state, connection, host, key, value);
@@ -83,8 +87,9 @@ pub fn store_cookies(
     keys: u8,
     values: [u32; 8],
 )
-    requires { ⌜ WellFormed (now policy) × (length (now state) ≡ stateWords) × (connection < connections) × (host < hosts) ⌝ }
-    ensures { λ _. ⌜ now (state .exit) ≡ storeCookies (now (policy .entry)) connection host (delivered keys values) (now (state .entry)) ⌝ }
+    requires { ⌜ Session (now policy) (now state) × (connection < connections) × (host < hosts) ⌝ }
+    ensures { λ _. ⌜ now (state .exit)
+        ≡ storeCookies (now (policy .entry)) connection host (delivered keys values) (now (state .entry)) ⌝ }
 {
     if keys == 0 {
         return;

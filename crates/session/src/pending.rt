@@ -24,7 +24,8 @@ pub struct Pending {
 
 impl Pending {
     pub fn of(word: u32) -> Pending
-        ensures { λ r. ⌜ (r .kind ≡ kindOf word) × (r .origin ≡ originOf word) × (r .handler ≡ handlerOf word) × (r .url ≡ urlOf word) × (r .kind < 256) × (r .origin < 256) × (r .handler < 256) × (r .url < 256) ⌝ }
+        ensures { λ r. ⌜ (r .kind ≡ kindOf word) × (r .origin ≡ originOf word) × (r .handler ≡ handlerOf word) × (r .url ≡ urlOf word)
+            × (r .kind < 256) × (r .origin < 256) × (r .handler < 256) × (r .url < 256) ⌝ }
     {
         Pending {
             kind: word / 0x100_0000,

@@ -1,27 +1,23 @@
 // The request that opens or moves a connection: its cookies, its fields, and its bytes in the output.
 ghost use mathlib.Core.Path.{_≡_};
-ghost use mathlib.Core.Bool.{_&&_};
 ghost use mathlib.Core.List.{map};
 ghost use Prim.Native.Nat.{_<_, _≤_};
 ghost use lib.ListN.{length};
 ghost use Rattle.labels.specs.Addresses.{hosts};
-ghost use Rattle.labels.specs.Sets.{within};
 ghost use Rattle.records.specs.Layout.{keyNumbers};
-ghost use Rattle.machine.specs.Choice.{branch};
-ghost use Rattle.machine.specs.Policy.{hostKeys, connections, cookieIndex, cookieReaders, urlHost};
-ghost use Rattle.machine.specs.Session.{stateWords, cookieValue, has, present, keyMap, attaches, requestMap, request, packed, setConnection};
-ghost use Rattle.policy.specs.Given.{WellFormed, Url};
+ghost use Rattle.prelude.specs.Choice.{branch};
+ghost use Rattle.machine.specs.Policy.{hostKeys, connections, cookieIndex};
+ghost use Rattle.machine.specs.Session.{stateWords, cookieValue, has, keyMap, attaches, requestMap, request, packed, setConnection};
+ghost use Rattle.policy.specs.Given.{Url};
+ghost use Rattle.session.specs.Given.{Session};
 ghost use Rattle.session.specs.Output.{output, writeNext};
 use super::cookies::has;
-use super::cookies::is_present;
 use super::pending::DOCUMENT;
 use super::pending::Pending;
 use super::words::cookie_value;
 use super::words::presence;
 use super::words::set_connection;
-use labels::EndpointSet;
-use policy::may_carry;
-use policy::message_of;
+use policy::carried_keys;
 use policy::url_host;
 use policy::words::HOST_KEYS;
 use records::Direction;
@@ -30,29 +26,16 @@ use records::map_bytes::DOCUMENT_REQUEST;
 use records::map_bytes::SCRIPT_REQUEST;
 use records::map_bytes::WITH_COOKIES;
 
-// Whether a request carries a cookie of a host: it is present, and its readers hold the message endpoint, whose set is `message`.
-fn attaches(policy: &[u32], state: &[u32], message: EndpointSet, host: usize, key: usize) -> bool
-    requires { ⌜ WellFormed (now policy) × (length (now state) ≡ stateWords) × (host < hosts) × (key < hostKeys) ⌝ }
-    ensures { λ r. ⌜ r ≡ present (now (state .entry)) host key && within (message .bits) (cookieReaders (now (policy .entry)) (cookieIndex host key)) ⌝ }
-{
-    is_present(state, host, key) & may_carry(policy, message, host, key)
-}
-
 // The map of the keys of the cookies that a request to a URL carries. A host without cookies, the common case, is told at once.
 fn attached_keys(policy: &[u32], state: &[u32], url: usize) -> u8
-    requires { ⌜ WellFormed (now policy) × Url (now policy) url × (length (now state) ≡ stateWords) ⌝ }
+    requires { ⌜ Session (now policy) (now state) × Url (now policy) url ⌝ }
     ensures { λ r. ⌜ r ≡ keyMap (attaches (now (policy .entry)) (now (state .entry)) url) ⌝ }
 {
-    let host = url_host(policy, url);
-    if presence(state, host) == 0 {
+    let present = presence(state, url_host(policy, url));
+    if present == 0 {
         return 0;
     }
-    let message = message_of(policy, url);
-    let mut keys = 0u32;
-    for key in 0..HOST_KEYS {
-        keys = keys + ((attaches(policy, state, message, host, key) as u32) << key);
-    }
-    keys as u8
+    (present & carried_keys(policy, url) as u32) as u8
 }
 
 // The value of a cookie where its key is in a map of keys, else 0.
@@ -100,7 +83,7 @@ fn request(
     handler: usize,
     url: usize,
 ) -> Record
-    requires { ⌜ WellFormed (now policy) × Url (now policy) url × (length (now state) ≡ stateWords) × (connection < connections) × (handler < 256) ⌝ }
+    requires { ⌜ Session (now policy) (now state) × Url (now policy) url × (connection < connections) × (handler < 256) ⌝ }
     ensures { λ r. ⌜ r ≡ request (now (policy .entry)) (now (state .entry)) connection kind handler url ⌝ }
 {
     let keys = attached_keys(policy, state, url);
@@ -121,7 +104,8 @@ fn request(
 // answers: the monitor's requests can always be written (`SentReadsBack`).
 fn write_next(fields: Record, out: &mut [u8], at: usize) -> usize
     requires { ⌜ at ≤ length (now out) ⌝ }
-    ensures { λ r. ⌜ (output r (now (out .exit)) ≡ writeNext fields (output at (now (out .entry)))) × (r ≤ length (now (out .entry))) ⌝ }
+    ensures { λ r. ⌜ (output r (now (out .exit)) ≡ writeNext fields (output at (now (out .entry))))
+        × (r ≤ length (now (out .entry))) ⌝ }
 {
     let written = records::encode(Direction::Request, fields, &mut out[at..]);
     at + written.length
@@ -137,8 +121,14 @@ pub fn send(
     out: &mut [u8],
     at: usize,
 ) -> usize
-    requires { ⌜ WellFormed (now policy) × Url (now policy) (pending .url) × (length (now state) ≡ stateWords) × (connection < connections) × (pending .kind < 256) × (pending .origin < 256) × (pending .handler < 256) × (at ≤ length (now out)) ⌝ }
-    ensures { λ r. ⌜ (now (state .exit) ≡ setConnection connection (packed (pending .kind) (pending .origin) (pending .handler) (pending .url)) (now (state .entry))) × (output r (now (out .exit)) ≡ writeNext (request (now (policy .entry)) (now (state .entry)) connection (pending .kind) (pending .handler) (pending .url)) (output at (now (out .entry)))) × (r ≤ length (now (out .entry))) ⌝ }
+    requires { ⌜ Session (now policy) (now state) × Url (now policy) (pending .url) × (connection < connections)
+        × (pending .kind < 256) × (pending .origin < 256) × (pending .handler < 256) × (at ≤ length (now out)) ⌝ }
+    ensures { λ r. ⌜ (now (state .exit)
+        ≡ setConnection connection (packed (pending .kind) (pending .origin) (pending .handler) (pending .url)) (now (state .entry)))
+        × (output r (now (out .exit))
+        ≡ writeNext (request (now (policy .entry)) (now (state .entry)) connection (pending .kind) (pending .handler) (pending .url))
+        (output at (now (out .entry))))
+        × (r ≤ length (now (out .entry))) ⌝ }
 {
     let next = write_next(
         request(

@@ -9,6 +9,7 @@ ghost use Rattle.labels.specs.Membership.{allBelow};
 ghost use Rattle.machine.specs.Policy.{hostKeys, connections};
 ghost use Rattle.machine.specs.Session.{stateWords, presence, connectionWord, has, free, cookieSound, hostSound, connectionSound, sound};
 ghost use Rattle.policy.specs.Given.{WellFormed};
+ghost use Rattle.session.specs.Given.{Session};
 ghost use Rattle.session.specs.Kinds.{documentShape, scriptShape};
 ghost use Rattle.session.specs.Strays.{noneLeft};
 use super::cookies::has;
@@ -135,7 +136,8 @@ fn connection_sound(policy: &[u32], connection: usize, word: u32) -> bool
 // The words of two connections as one, which the compiler reads at once.
 fn two_connections(state: &[u32], first: usize) -> u64
     requires { ⌜ (length (now state) ≡ stateWords) × (first + 2 ≤ connections) ⌝ }
-    ensures { λ r. ⌜ eqb r 0 ≡ eqb (connectionWord (now (state .entry)) first) free && eqb (connectionWord (now (state .entry)) (first + 1)) free ⌝ }
+    ensures { λ r. ⌜ eqb r 0
+        ≡ eqb (connectionWord (now (state .entry)) first) free && eqb (connectionWord (now (state .entry)) (first + 1)) free ⌝ }
 {
     connection_word(state, first) as u64 + connection_word(state, first + 1) as u64 * 0x1_0000_0000
 }
@@ -150,8 +152,9 @@ fn four_free(state: &[u32], first: usize) -> bool
 
 // Whether the four connections from this one on are sound.
 fn four_sound(policy: &[u32], state: &[u32], first: usize) -> bool
-    requires { ⌜ WellFormed (now policy) × (length (now state) ≡ stateWords) × (first + 4 ≤ connections) ⌝ }
-    ensures { λ r. ⌜ r ≡ allBelow 4 (λ i. connectionSound (now (policy .entry)) (first + i) (connectionWord (now (state .entry)) (first + i))) ⌝ }
+    requires { ⌜ Session (now policy) (now state) × (first + 4 ≤ connections) ⌝ }
+    ensures { λ r. ⌜ r
+        ≡ allBelow 4 (λ i. connectionSound (now (policy .entry)) (first + i) (connectionWord (now (state .entry)) (first + i))) ⌝ }
 {
     for i in 0..4 {
         let connection = first + i;
@@ -164,7 +167,7 @@ fn four_sound(policy: &[u32], state: &[u32], first: usize) -> bool
 
 // Four at a time: most connections are free, and four that are free take one test.
 fn connections_sound(policy: &[u32], state: &[u32]) -> bool
-    requires { ⌜ WellFormed (now policy) × (length (now state) ≡ stateWords) ⌝ }
+    requires { ⌜ Session (now policy) (now state) ⌝ }
     ensures { λ r. ⌜ r ≡ allBelow connections (λ n. connectionSound (now (policy .entry)) n (connectionWord (now (state .entry)) n)) ⌝ }
 {
     let mut first = 0;

@@ -5,13 +5,15 @@ ghost use lib.ListN.{length};
 ghost use Rattle.labels.specs.Addresses.{hosts};
 ghost use Rattle.machine.specs.Policy.{hostKeys, connections, cookieIndex};
 ghost use Rattle.machine.specs.Session.{stateWords, cookieValue, presence, connectionWord, setConnection};
+use policy::words::CONNECTIONS;
 use policy::words::HOST_KEYS;
+use policy::words::HOSTS;
 
-pub const WORDS: usize = 176;
+pub const PRESENCE_AT: usize = HOSTS * HOST_KEYS;
 
-pub const PRESENCE_AT: usize = 128;
+const CONNECTIONS_AT: usize = PRESENCE_AT + HOSTS;
 
-const CONNECTIONS_AT: usize = 144;
+pub const WORDS: usize = CONNECTIONS_AT + CONNECTIONS;
 
 pub fn cookie_value(state: &[u32], host: usize, key: usize) -> u32
     requires { ⌜ (length (now state) ≡ stateWords) × (host < hosts) × (key < hostKeys) ⌝ }

@@ -7,7 +7,7 @@ use mathlib.Core.List.{List}
 use lib.Dec.{ltb, eqb}
 use lib.ListN.{length, getD}
 use borrow.Author.Tests.{ltb-true, ltb-false}
-use Rattle.records.specs.Codec.{accepted}
+use Rattle.prelude.specs.Refusals.{accepted}
 use Rattle.transcript.specs.declared.counts.Counts.{Counts}
 use Rattle.transcript.specs.declared.input.InputSize.the-variants.{Short, Long, Fits}
 use Rattle.transcript.specs.declared.input.Ending.the-variants.{End, Cut}

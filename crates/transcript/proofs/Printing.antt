@@ -6,12 +6,13 @@ use mathlib.Core.List.{List, [], _∷_, _++_}
 use lib.ListN.{length, take, drop, length-append, length-drop}
 use lib.Seq.{drop-drop, take-all, sets, length-sets}
 use Rattle.records.specs.declared.Decoded.{Decoded}
-use Rattle.records.specs.Codec.{accepted, firstRecord}
+use Rattle.prelude.specs.Refusals.{accepted}
+use Rattle.records.specs.Codec.{firstRecord}
 use Rattle.records.proofs.Cookies.{sets-append}
 use Rattle.transcript.specs.Text.{space, newline, decimal, hex, Wrote}
 use Rattle.transcript.specs.Lines.{requestLine, sentLines}
 use Rattle.transcript.proofs.Decimals.{byte-room}
-use Rattle.transcript.proofs.Requests.{number, firstOf, lineOf, request-long, first-is, first-within, lines-more}
+use Rattle.transcript.proofs.Requests.{number, firstRequest, lineOf, request-long, first-bytes, first-within, lines-more}
 
 -- what the loop reads: the bytes from a place on, and as many of those as the first record has
 pub rest-is : (sent : List ℕ) (from : ℕ) → take (length sent - from) (drop from sent) ≡ drop from sent
@@ -20,7 +21,7 @@ rest-is sent from = take-all (length sent - from) (drop from sent) (omega (arith
 pub first-taken : (sent : List ℕ) (from n : ℕ) → n ≡ length (firstRecord (drop from sent)) → take (from + n - from) (drop from sent) ≡ firstRecord (drop from sent)
 first-taken sent from n e =
     let count : from + n - from ≡ length (firstRecord (drop from sent)) = omega arith in
-    rw count (first-is (drop from sent))
+    rw count (first-bytes (drop from sent))
 
 line-short : (url connection keys : ℕ) → url < 256 → connection < 256 → length (requestLine url connection keys) ≤ 13
 line-short url connection keys u c =
@@ -54,8 +55,8 @@ module _ (before : List ℕ) (start : ℕ) (sent : List ℕ) where
     }
 
     -- the first of the bytes that are left is an accepted request
-    module _ (d : Decoded) (read : d ≡ firstOf (drop from sent)) (ok : d .number ≡ accepted) where
-      first-ok : firstOf (drop from sent) .number ≡ accepted
+    module _ (d : Decoded) (read : d ≡ firstRequest (drop from sent)) (ok : d .number ≡ accepted) where
+      first-ok : firstRequest (drop from sent) .number ≡ accepted
       first-ok = sym (ap number read) ∙ ok
 
       pub request-bytes : (3 ≤ length (firstRecord (drop from sent))) × (from + length (firstRecord (drop from sent)) ≤ length sent)

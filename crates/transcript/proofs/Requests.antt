@@ -7,32 +7,30 @@ use mathlib.Core.Bool.{Bool, true, false, true≢false, _||_}
 use mathlib.Core.List.{List, [], _∷_, _++_}
 use lib.Dec.{eqb}
 use lib.ListN.{length, take, drop, length-append, length-drop, take-append-drop}
-use borrow.Author.Tests.{eqb-true, eqb-false, ne-eqb}
+use borrow.Author.Tests.{eqb-true, ne-eqb}
 use Rattle.records.specs.declared.Direction.the-variants.{Request}
 use Rattle.records.specs.declared.Record.{Record}
 use Rattle.records.specs.declared.Decoded.{Decoded}
 use Rattle.records.specs.Bytes.{bit}
 use Rattle.records.specs.Layout.{maps, size}
-use Rattle.records.specs.Codec.{accepted, isOneOf, mapOf, keysOf, decoded, firstRecord, readAtMost, readRun}
-use Rattle.records.proofs.Decoding.{refused-map, refused-length}
+use Rattle.prelude.specs.Refusals.{accepted}
+use Rattle.records.specs.Codec.{isOneOf, mapOf, keysOf, decoded, firstRecord, readAtMost, readRun}
+use Rattle.records.proofs.Decoding.{known, right-length}
 use Rattle.records.proofs.Writing.{size-split, front-end}
+use Rattle.machine.proofs.Lists.{Each}
 use Rattle.transcript.specs.Lines.{requestLine, requestLines, sentLines}
 
 abbrev pub number : Decoded → ℕ
 number d = d .number
 
 -- the first bytes, read as a request
-abbrev pub firstOf : List ℕ → Decoded
-firstOf bytes = decoded Request (firstRecord bytes)
+abbrev pub firstRequest : List ℕ → Decoded
+firstRequest bytes = decoded Request (firstRecord bytes)
 
 abbrev pub lineOf : Decoded → List ℕ
 lineOf d = requestLine (d .fields .url) (d .fields .connection) (d .fields .keys)
 
 -- ---- an accepted request has at least 3 bytes
-
-abbrev Each : (ℕ → Type 0) → List ℕ → Type 0
-Each P [] = Unit {0}
-Each P (m ∷ ms) = P m × Each P ms
 
 among : (P : ℕ → Type 0) (ms : List ℕ) (m : ℕ) → Each P ms → isOneOf m ms ≡ true → P m
 unfolding isOneOf
@@ -43,28 +41,20 @@ among P (k ∷ ms) m all e = go (eqb m k) refl (λ q. among P ms m (all .1) q) e
     go true q rest e = subst P (sym (eqb-true m k q)) (all .0)
     go false q rest e = rest e
 
-module _ (bytes : List ℕ) (ok : decoded Request bytes .number ≡ accepted) where
-  known : (b : Bool) → isOneOf (mapOf bytes) (maps Request) ≡ b → b ≡ true
-  known true e = refl
-  known false e = absurd (omega (arith, ok, ap number (refused-map Request bytes e)))
-
-  exact : (b : Bool) → eqb (length bytes) (size (mapOf bytes) (keysOf bytes)) ≡ b → length bytes ≡ size (mapOf bytes) (keysOf bytes)
-  exact true e = eqb-true (length bytes) (size (mapOf bytes) (keysOf bytes)) e
-  exact false e = absurd (omega (arith, ok, ap number (refused-length Request bytes (eqb-false (length bytes) (size (mapOf bytes) (keysOf bytes)) e))))
-
-  pub request-long : 3 ≤ length bytes
-  request-long =
-      let m = mapOf bytes in
-      let two : 2 ≤ bit m 0 + bit m 1 =
-      among (λ k. 2 ≤ bit k 0 + bit k 1) (maps Request) m (omega arith, (omega arith, (omega arith, (omega arith, tt)))) (known (isOneOf m (maps Request)) refl) in
-      omega (arith, two, exact (eqb (length bytes) (size m (keysOf bytes))) refl, size-split m (keysOf bytes), front-end m (keysOf bytes))
+pub request-long : (bytes : List ℕ) → decoded Request bytes .number ≡ accepted → 3 ≤ length bytes
+unfolding decoded
+request-long bytes ok =
+    let m = mapOf bytes in
+    let two : 2 ≤ bit m 0 + bit m 1 =
+    among (λ k. 2 ≤ bit k 0 + bit k 1) (maps Request) m (omega arith, (omega arith, (omega arith, (omega arith, tt)))) (known Request bytes ok .1) in
+    omega (arith, two, right-length Request bytes ok, size-split m (keysOf bytes), front-end m (keysOf bytes))
 
 -- ---- the run of requests
 
 -- as many bytes as the first record has are the first record
-pub first-is : (bytes : List ℕ) → take (length (firstRecord bytes)) bytes ≡ firstRecord bytes
+pub first-bytes : (bytes : List ℕ) → take (length (firstRecord bytes)) bytes ≡ firstRecord bytes
 unfolding firstRecord
-first-is bytes = again (size (mapOf bytes) (keysOf bytes)) bytes
+first-bytes bytes = again (size (mapOf bytes) (keysOf bytes)) bytes
   where
     again : (n : ℕ) (l : List ℕ) → take (length (take n l)) l ≡ take n l
     again zero l = refl
@@ -72,14 +62,14 @@ first-is bytes = again (size (mapOf bytes) (keysOf bytes)) bytes
     again (suc n) (x ∷ l) = ap (λ (r : List ℕ). x ∷ r) (again n l)
 
 module _ (n : ℕ) (bytes : List ℕ) where
-  read-more : firstOf bytes .number ≡ accepted
-      → readAtMost (suc n) Request bytes .records ≡ firstOf bytes .fields ∷ readAtMost n Request (drop (length (firstRecord bytes)) bytes) .records
+  read-more : firstRequest bytes .number ≡ accepted
+      → readAtMost (suc n) Request bytes .records ≡ firstRequest bytes .fields ∷ readAtMost n Request (drop (length (firstRecord bytes)) bytes) .records
   unfolding readAtMost
   read-more ok = rw ok
 
-  read-none : (firstOf bytes .number ≡ accepted → ⊥) → readAtMost (suc n) Request bytes .records ≡ []
+  read-none : (firstRequest bytes .number ≡ accepted → ⊥) → readAtMost (suc n) Request bytes .records ≡ []
   unfolding readAtMost
-  read-none ne = rw (ne-eqb (firstOf bytes .number) accepted ne)
+  read-none ne = rw (ne-eqb (firstRequest bytes .number) accepted ne)
 
 pub first-within : (bytes : List ℕ) → length (firstRecord bytes) ≤ length bytes
 unfolding firstRecord
@@ -98,10 +88,10 @@ read-stable zero m bytes l k = read-empty zero bytes (omega arith) ∙ sym (read
 read-stable (suc n) zero bytes l k = read-empty (suc n) bytes (omega arith) ∙ sym (read-empty zero bytes (omega arith))
 read-stable (suc n) (suc m) bytes l k =
     let rest = drop (length (firstRecord bytes)) bytes in
-    elim (ℕ-discrete (firstOf bytes .number) accepted) [
+    elim (ℕ-discrete (firstRequest bytes .number) accepted) [
       | yes ok ↦
           let shorter : length rest < length bytes = simp length-drop (omega (arith, request-long (firstRecord bytes) ok, first-within bytes)) in
-          read-more n bytes ok ∙ ap (λ (rs : List Record). firstOf bytes .fields ∷ rs) (read-stable n m rest (omega arith) (omega arith)) ∙ sym (read-more m bytes ok)
+          read-more n bytes ok ∙ ap (λ (rs : List Record). firstRequest bytes .fields ∷ rs) (read-stable n m rest (omega arith) (omega arith)) ∙ sym (read-more m bytes ok)
       | no ne ↦ read-none n bytes ne ∙ sym (read-none m bytes ne)
     ]
 
@@ -111,17 +101,17 @@ pub lines-end : sentLines [] ≡ []
 unfolding sentLines requestLines readRun readAtMost
 lines-end = refl
 
-pub lines-none : (bytes : List ℕ) → (firstOf bytes .number ≡ accepted → ⊥) → sentLines bytes ≡ []
+pub lines-none : (bytes : List ℕ) → (firstRequest bytes .number ≡ accepted → ⊥) → sentLines bytes ≡ []
 unfolding sentLines requestLines readRun
 lines-none [] ne = lines-end
 lines-none (b ∷ bytes) ne = rw (read-none (length bytes) (b ∷ bytes) ne)
 
-pub lines-more : (bytes : List ℕ) → firstOf bytes .number ≡ accepted
-    → sentLines bytes ≡ lineOf (firstOf bytes) ++ sentLines (drop (length (firstRecord bytes)) bytes)
+pub lines-more : (bytes : List ℕ) → firstRequest bytes .number ≡ accepted
+    → sentLines bytes ≡ lineOf (firstRequest bytes) ++ sentLines (drop (length (firstRecord bytes)) bytes)
 unfolding sentLines requestLines readRun
 lines-more [] ok = absurd (omega (arith, request-long (firstRecord []) ok, first-within []))
 lines-more (b ∷ bytes) ok =
     let all = b ∷ bytes in
     let rest = drop (length (firstRecord all)) all in
     let shorter : length rest < length all = simp length-drop (omega (arith, request-long (firstRecord all) ok, first-within all)) in
-    ap requestLines (read-more (length bytes) all ok ∙ ap (λ (rs : List Record). firstOf all .fields ∷ rs) (read-stable (length bytes) (length rest) rest (omega arith) (omega arith)))
+    ap requestLines (read-more (length bytes) all ok ∙ ap (λ (rs : List Record). firstRequest all .fields ∷ rs) (read-stable (length bytes) (length rest) rest (omega arith) (omega arith)))

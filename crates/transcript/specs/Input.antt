@@ -5,7 +5,7 @@ use mathlib.Core.List.{List, [], _∷_}
 use lib.Dec.{ltb, eqb}
 use lib.ListN.{length, getD, take, drop}
 use Rattle.records.specs.Bytes.{number}
-use Rattle.records.specs.Codec.{accepted}
+use Rattle.prelude.specs.Refusals.{accepted}
 use Rattle.machine.specs.Policy.{policyWords}
 use Rattle.machine.specs.Scripts.{tableBytes}
 use Rattle.transcript.specs.declared.counts.Counts.{Counts}

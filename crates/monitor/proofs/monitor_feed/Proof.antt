@@ -12,11 +12,14 @@ use Rattle.monitor.proofs.monitor_feed.Tie as tie
 
 cast-t11 : tie.Need-cast-t11
 cast-t11 c =
-    let a = c .before .before .before .before .before .before .before .before .before .before .before .before .before .args in
-    let e = ap (λ (f : Fed). f .bytes) (c .before .before .before .before .before .feed .ensures) in
+    let call = c .before .before .before .before .before in
+    let bytes = call .before .before .before .before in
+    let scripts = bytes .before .before in
+    let a = scripts .before .before .args in
+    let e = ap (λ (f : Fed). f .bytes) (call .feed .ensures) in
     let small = bytes-small (now (a .policy)) (now (a .scripts)) (now (a .state)) (now (a .bytes)) (now (a .out))
-    (bytes-are (now (a .scripts)) (λ i. c .before .before .before .before .before .before .before .before .before .before .before .shared-slice-known2 .given i .fits)) (words-are (now (a .state)) (λ i. c .before .before .before .before .before .before .before .before .before .before .slice-known .given i .fits))
-    (bytes-are (now (a .bytes)) (λ i. c .before .before .before .before .before .before .before .before .before .shared-slice-known3 .given i .fits)) in
+    (bytes-are (now (a .scripts)) (λ i. scripts .shared-slice-known2 .given i .fits)) (words-are (now (a .state)) (λ i. bytes .before .slice-known .given i .fits))
+    (bytes-are (now (a .bytes)) (λ i. bytes .shared-slice-known3 .given i .fits)) in
     record { fits = rw e (lt-of-le-of-lt (rw (longest-is .1) at small) (lit< tt)) }
 
 pub monitor-feed-spec : {M : Type 1} → statement M

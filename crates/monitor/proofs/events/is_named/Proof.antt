@@ -5,7 +5,7 @@ use lib.Dec.{T, ltb, ltb→lt}
 use store.Enc.{and-l, and-r}
 use mathlib.Core.Path.{sym, subst}
 use Rattle.machine.specs.Policy.{connections}
-use Rattle.machine.proofs.Choices.{is-true}
+use Rattle.prelude.proofs.Choices.{is-true}
 use Rattle.monitor.proofs.events.is_named.Statement.{statement}
 use Rattle.monitor.proofs.events.is_named.Tie as tie
 

@@ -3,66 +3,96 @@ use borrow.Author.Needs.{needs}
 use borrow.Author.Tests.{not-true, not-false}
 use denote.Ref.{now}
 use lib.Dec.{lit<}
-use mathlib.Core.Bool.{true, _&&_}
-use mathlib.Core.Path.{_≡_, refl, sym, _∙_}
+use lib.ListN.{take}
+use mathlib.Core.Bool.{true, not, _&&_}
+use mathlib.Core.Path.{_≡_, refl, sym, ap, _∙_}
 use Prim.Native.Nat.{zero-le}
+use Rattle.prelude.proofs.Refusals.{NoneOf}
 use Rattle.machine.specs.Policy.{isUrl, isConnection, loadReaders}
-use Rattle.machine.specs.Machine.{Load, named, awaited, readersAllow, writersAllow, perform}
-use Rattle.monitor.proofs.Reacting.{unnamed, forbidden-readers, forbidden-writers, performed, sent-done}
+use Rattle.machine.specs.Machine.{Event, Load, named, awaited, readersAllow, writersAllow, eventRefusals, perform}
+use Rattle.monitor.proofs.Reacting.{refused-by, performed, sent-done}
 use Rattle.monitor.proofs.events.load.Statement.{statement}
 use Rattle.monitor.proofs.events.load.Tie as tie
 
--- the tests that passed
+-- ---- the places after each test, and what is known there
+
+abbrev start : tie.After-is-named → tie.Start
+start m = m .before .before .before .before
+
+abbrev first : tie.After-load-readers → tie.After-is-named
+first m = m .before .before
+
+abbrev second : tie.After-load-writers → tie.After-load-readers
+second m = m .before .before
+
+abbrev event : tie.After-is-named → Event
+event m = Load (start m .args .url) (start m .args .connection)
+
 is-named : (m : tie.Else1) → m .before .is-named .result ≡ true
 is-named m = not-false (m .before .is-named .result) (m .if1 .left)
 
-names : (m : tie.Else1) → isUrl (now (m .before .before .before .before .before .args .policy)) (m .before .before .before .before .before .args .url) && isConnection (m .before .before .before .before .before .args .connection) ≡ true
-names m = sym (m .before .is-named .ensures .0) ∙ is-named m
+-- 6 and 7 do not apply, nor 8
+named-passed : (m : tie.Else1) → NoneOf (take 2 (eventRefusals (now (start (m .before) .args .policy)) (now (start (m .before) .args .state)) (event (m .before))))
+unfolding named awaited
+named-passed m = (ap not (sym (m .before .is-named .ensures .0) ∙ is-named m), (refl, tt))
 
-readers : (m : tie.Else2) → loadReaders (now (m .before .before .before .before .before .before .before .args .policy)) (m .before .before .before .before .before .before .before .args .connection) (m .before .before .before .before .before .before .before .args .url) ≡ true
-readers m = sym (m .before .load-readers .ensures) ∙ not-false (m .before .load-readers .result) (m .if2 .left)
+readers-passed : (m : tie.Else2) → (let f = first (m .before) in NoneOf (take 3 (eventRefusals (now (start f .args .policy)) (now (start f .args .state)) (event f))))
+unfolding readersAllow
+readers-passed m =
+    let (names, (waits, _)) = named-passed (m .before .before) in
+    (names, (waits, (ap not (sym (m .before .load-readers .ensures) ∙ not-false (m .before .load-readers .result) (m .if2 .left)), tt)))
+
+-- ---- the returns
 
 returns : tie.Need-returns
 unfolding named
 returns c scripts =
-    let a = c .before .before .before .before .before .before .args in
-    let test = c .before .before .is-named in
-    unnamed (now (a .policy)) scripts (now (a .state)) (now (a .out)) (Load (a .url) (a .connection)) (c .refused .result) (sym (test .ensures .0) ∙ not-true (test .result) (c .before .if1 .taken)) (c .refused .ensures)
+    let m = c .before .before in
+    let a = start m .args in
+    refused-by (now (a .policy)) scripts (now (a .state)) (now (a .out)) (event m) 0 (c .refused .result) tt
+    (ap not (sym (m .is-named .ensures .0) ∙ not-true (m .is-named .result) (c .before .if1 .taken))) tt (c .refused .ensures)
 
 load-readers-requires : tie.Need-load-readers-requires
 load-readers-requires c κs = let given = c .before .is-named .ensures .1 (is-named c) in search needs
 
 returns-2 : tie.Need-returns-2
-unfolding named awaited readersAllow
+unfolding readersAllow
 returns-2 c scripts =
-    let a = c .before .before .before .before .before .before .before .before .args in
-    let test = c .before .before .load-readers in
-    forbidden-readers (now (a .policy)) scripts (now (a .state)) (now (a .out)) (Load (a .url) (a .connection)) (c .refused2 .result) (names (c .before .before .before)) refl (sym (test .ensures) ∙ not-true (test .result) (c .before .if2 .taken)) (c .refused2 .ensures)
+    let m = c .before .before in
+    let a = start (first m) .args in
+    refused-by (now (a .policy)) scripts (now (a .state)) (now (a .out)) (event (first m)) 2 (c .refused2 .result) (named-passed (m .before))
+    (ap not (sym (m .load-readers .ensures) ∙ not-true (m .load-readers .result) (c .before .if2 .taken))) tt (c .refused2 .ensures)
 
 load-writers-requires : tie.Need-load-writers-requires
-load-writers-requires c κs = let given = c .before .before .before .is-named .ensures .1 (is-named (c .before .before)) in search needs
+load-writers-requires c κs = let given = first (c .before) .is-named .ensures .1 (is-named (c .before .before)) in search needs
 
 returns-3 : tie.Need-returns-3
-unfolding named awaited readersAllow writersAllow
+unfolding writersAllow
 returns-3 c scripts =
-    let a = c .before .before .before .before .before .before .before .before .before .before .args in
-    let test = c .before .before .load-writers in
-    forbidden-writers (now (a .policy)) scripts (now (a .state)) (now (a .out)) (Load (a .url) (a .connection)) (c .refused3 .result) (names (c .before .before .before .before .before)) refl (readers (c .before .before .before)) (sym (test .ensures) ∙ not-true (test .result) (c .before .if3 .taken)) (c .refused3 .ensures)
+    let m = c .before .before in
+    let f = first (second m) in
+    let a = start f .args in
+    refused-by (now (a .policy)) scripts (now (a .state)) (now (a .out)) (event f) 3 (c .refused3 .result) (readers-passed (m .before))
+    (ap not (sym (m .load-writers .ensures) ∙ not-true (m .load-writers .result) (c .before .if3 .taken))) tt (c .refused3 .ensures)
 
 send-requires : tie.Need-send-requires
 send-requires c κs =
-    let start = c .before .before .before .before .before .before .before .before .before .before .before in
-    let given = c .before .before .before .before .before .before .before .is-named .ensures .1 (is-named (c .before .before .before .before .before .before)) in
-    (start .pre .0, given .0, start .pre .1, given .1, lit< tt, lit< tt, lit< tt, zero-le)
+    let m = second (c .before .before .before) in
+    let given = first m .is-named .ensures .1 (is-named (m .before)) in
+    (start (first m) .pre, given .0, given .1, lit< tt, lit< tt, lit< tt, zero-le)
 
 returns-4 : tie.Need-returns-4
-unfolding named awaited readersAllow writersAllow perform
+unfolding writersAllow perform
 returns-4 c scripts =
-    let a = c .before .before .before .before .before .before .before .before .before .before .before .before .before .before .before .before .args in
-    let test = c .before .before .before .before .before .before .before .before .load-writers in
-    let call = c .before .before .before .before .send in
-    performed (now (a .policy)) scripts (now (a .state)) (now (a .out)) (Load (a .url) (a .connection)) _ (names (c .before .before .before .before .before .before .before .before .before .before .before)) refl (readers (c .before .before .before .before .before .before .before .before .before)) (sym (test .ensures) ∙ not-false (test .result) (c .before .before .before .before .before .before .before .if3 .left))
-    (sent-done (now (a .policy)) (now (a .state)) (a .connection) 1 0 0 (a .url) _ _ (now (a .out)) _ (call .ensures .0) (call .ensures .1))
+    let call = c .before .before .before .before in
+    let third = call .before .before .before in
+    let m = third .before in
+    let f = first (second m) in
+    let a = start f .args in
+    let (names, (waits, (readers, _))) = readers-passed (m .before) in
+    performed (now (a .policy)) scripts (now (a .state)) (now (a .out)) (event f) _
+    (names, (waits, (readers, (ap not (sym (m .load-writers .ensures) ∙ not-false (m .load-writers .result) (third .if3 .left)), tt))))
+    (sent-done (now (a .policy)) (now (a .state)) (a .connection) 1 0 0 (a .url) _ _ (now (a .out)) _ (call .send .ensures .0) (call .send .ensures .1))
 
 pub load-spec : {M : Type 1} → statement M
 load-spec =

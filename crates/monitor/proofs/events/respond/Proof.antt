@@ -1,26 +1,42 @@
 -- `events::respond` meets its contract: cookies stored, connection freed and script run, one after the other, are what a response does.
 use borrow.Author.Needs.{needs}
 use denote.Ref.{now}
-use mathlib.Core.Path.{_∙_}
-use Rattle.machine.specs.Scripts.{runScript}
+use mathlib.Core.Path.{ap, _∙_}
+use Prim.Native.Nat.{ℕ}
+use Rattle.machine.specs.Session.{storeCookies}
+use Rattle.session.specs.Delivered.{delivered}
 use Rattle.monitor.proofs.Reacting.{part-is, part-length, run-done}
 use Rattle.monitor.proofs.events.respond.Statement.{statement}
 use Rattle.monitor.proofs.events.respond.Tie as tie
 
+abbrev freeing : tie.After-run-arg2 → tie.After-set-connection
+freeing m = m .before .before .before .before .before
+
+abbrev storing : tie.After-set-connection → tie.After-store-cookies
+storing m = m .before .before .before .before
+
+abbrev start : tie.After-store-cookies → tie.Start
+start m = m .before .before .before .before .before .before .before .before
+
 run-requires : tie.Need-run-requires
 run-requires c κs =
-    let start = c .before .before .before .before .before .before .before .before .before .before .before .before .before .before .before .before .before in
-    let pre = start .pre in
-    (pre .0, c .before .before .before .before .before .set-connection .kept .0 ∙ (c .before .before .before .before .before .before .before .before .before .store-cookies .kept .1 .0 ∙ pre .2), part-length (now (start .args .scripts)) (start .args .script) (pre .1) (pre .6), pre .4, pre .5)
+    let m = storing (freeing c) in
+    let a = start m .args in
+    let (arriving, table, page, script) = start m .pre in
+    let session = arriving .session in
+    let whole = freeing c .set-connection .kept .0 ∙ (m .store-cookies .kept .1 .0 ∙ session .whole) in
+    (record { session = record { policy = session .policy; whole = whole }; connection = arriving .connection; url = page }, part-length (now (a .scripts)) (a .script) table script)
 
 returns : tie.Need-returns
-unfolding runScript
 returns c =
-    let a = c .before .before .before .before .before .before .before .before .before .before .before .before .before .before .before .before .before .before .before .before .before .before .args in
-    let call = c .before .before .before .before .run in
-    let stored = rw (c .before .before .before .before .before .before .before .before .before .before .before .before .before .before .before .before .url-host .ensures .0) at (c .before .before .before .before .before .before .before .before .before .before .before .before .before .before .store-cookies .ensures) in
-    let freed = rw stored at (c .before .before .before .before .before .before .before .before .before .before .set-connection .ensures) in
-    run-done (call .result) _ _ (now (a .out)) _ (rw (part-is (now (a .scripts)) (a .script), freed) at (call .ensures))
+    let call = c .before .before .before .before in
+    let f = freeing (call .before) in
+    let m = storing f in
+    let a = start m .args in
+    let host = m .before .before .url-host .ensures .0 in
+    let at-host = ap (λ (h : ℕ). storeCookies (now (a .policy)) (a .from .connection) h (delivered (a .from .keys) (a .from .cookies)) (now (a .state))) host in
+    run-done (now (a .policy)) (now (a .scripts)) _ (a .from .connection) (a .page) (a .script) (a .value) (call .run .result) (now (a .out)) (part-is (now (a .scripts)) (a .script))
+    (m .store-cookies .ensures ∙ at-host) (f .set-connection .ensures) (call .run .ensures)
 
 pub respond-spec : {M : Type 1} → statement M
 respond-spec =

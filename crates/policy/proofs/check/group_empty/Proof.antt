@@ -4,7 +4,7 @@ use denote.Ref.{now}
 use lib.Bits.{bitOr}
 use Rattle.machine.specs.Policy.{emptyRow}
 use Rattle.labels.proofs.Below.{eight}
-use Rattle.records.proofs.Cookies.{or-zero}
+use Rattle.prelude.proofs.Bits.{or-zero}
 use Rattle.policy.proofs.check.group_empty.Statement.{statement}
 use Rattle.policy.proofs.check.group_empty.Tie as tie
 

@@ -7,6 +7,9 @@ use Rattle.scripts.proofs.OneStep.{named, read-no-key, read-goes-on, re
 use Rattle.scripts.proofs.steps.read_cookie.Statement.{statement}
 use Rattle.scripts.proofs.steps.read_cookie.Tie as tie
 
+abbrev start : tie.After-is-present → tie.Start
+start m = m .before .before .before .before .before .before .before
+
 returns : tie.Need-returns
 returns c =
     let a = c .before .before .before .before .before .args in
@@ -14,8 +17,8 @@ returns c =
     (read-no-key (now (a .policy)) (a .connection) (a .page) (a .position .place) (now (a .registers)) (now (a .state)) (a .register) (a .key) (c .before .if1 .taken) (call .0), call .1)
 
 -- the test names a register
-is-register : (c : tie.Then2) → c .before .before .before .before .before .before .before .before .args .register < registerCount
-is-register c = named _ _ (c .if2 .taken) .0
+is-register : (m : tie.Then2) → start (m .before) .args .register < registerCount
+is-register m = named _ _ (m .if2 .taken) .0
 
 register-place : tie.Need-mul-registers
 register-place c = let known = is-register (c .before) in search needs
@@ -25,22 +28,22 @@ register c = let known = is-register (c .before) in search needs
 
 returns-2 : tie.Need-returns-2
 returns-2 c =
-    let test = c .before .before in
-    let a = test .before .before .before .before .before .before .before .before .args in
-    let call = c .after .ensures in (
-      read-goes-on (now (a .policy)) (a .connection) (a .page) (a .position .place) (now (a .registers)) (now (a .state)) (a .register) (a .key) (test .before .before .before .before .if1 .left) (test .before .before .before .url-host .result) (test .before .before .may-read .result) (test .before .is-present .result)
-          (test .before .before .before .url-host .ensures .0) (test .before .before .may-read .ensures) (test .before .is-present .ensures) (c .before .cookie-value .result) (test .if2 .taken) (c .before .cookie-value .ensures) (call .0),
-      call .1,
+    let m = c .before .before .before in
+    let a = start m .args in
+    let host = m .before .before in (
+      read-goes-on (now (a .policy)) (a .connection) (a .page) (a .position .place) (now (a .registers)) (now (a .state)) (a .register) (a .key) (host .before .if1 .left) (host .url-host .result) (m .before .may-read .result) (m .is-present .result)
+          (host .url-host .ensures .0) (m .before .may-read .ensures) (m .is-present .ensures) (c .before .cookie-value .result) (c .before .before .if2 .taken) (c .before .cookie-value .ensures) (c .after .ensures .0),
+      c .after .ensures .1,
     )
 
 returns-3 : tie.Need-returns-3
 returns-3 c =
-    let test = c .before in
-    let a = test .before .before .before .before .before .before .before .before .args in
-    let call = c .ended2 .ensures in (
-      read-ends (now (a .policy)) (a .connection) (a .page) (a .position .place) (now (a .registers)) (now (a .state)) (a .register) (a .key) (test .before .before .before .before .if1 .left) (test .before .before .before .url-host .result) (test .before .before .may-read .result) (test .before .is-present .result)
-          (test .before .before .before .url-host .ensures .0) (test .before .before .may-read .ensures) (test .before .is-present .ensures) (test .if2 .left) (call .0),
-      call .1,
+    let m = c .before .before in
+    let a = start m .args in
+    let host = m .before .before in (
+      read-ends (now (a .policy)) (a .connection) (a .page) (a .position .place) (now (a .registers)) (now (a .state)) (a .register) (a .key) (host .before .if1 .left) (host .url-host .result) (m .before .may-read .result) (m .is-present .result)
+          (host .url-host .ensures .0) (m .before .may-read .ensures) (m .is-present .ensures) (c .before .if2 .left) (c .ended2 .ensures .0),
+      c .ended2 .ensures .1,
     )
 
 pub read-cookie-spec : {M : Type 1} → statement M

@@ -5,7 +5,7 @@ use lib.ListN.{length}
 use mathlib.Core.List.{List}
 use mathlib.Core.Path.{_≡_, refl, _∙_}
 use Prim.Native.Nat.{ℕ, _≤_}
-use Rattle.machine.specs.Choice.{branch}
+use Rattle.prelude.specs.Choice.{branch}
 use Rattle.machine.specs.Scripts.{Step, step, stepOf, stepAt, goesOn}
 use Rattle.session.specs.Output.{output}
 use Rattle.scripts.specs.declared.position.Position.{Position}
@@ -14,8 +14,11 @@ use Rattle.scripts.proofs.OneStep.{stops, plain, fetched, unknown}
 use Rattle.scripts.proofs.steps.step.Statement.{statement}
 use Rattle.scripts.proofs.steps.step.Tie as tie
 
+abbrev fetch : tie.After-byte4 → tie.After-byte
+fetch m = m .before .before .before
+
 abbrev start : tie.After-byte4 → tie.Start
-start m = m .before .before .before .before .before .before .before .before .before .before
+start m = fetch m .before .before .before .before .before .before .before
 
 -- the step at the place, by its operation
 at-place : (m : tie.After-byte4) (k : ℕ) → m .before .before .before .byte .result ≡ k
@@ -35,7 +38,7 @@ quiet : (m : tie.After-byte4) (x : Step) (r : Position) (rs s : List ℕ)
     × (r .written ≤ length (now (a .out))))
 quiet m x r rs s e goes w =
     let a = start m .args in
-    (rw e (plain r rs s (now (a .out)) (a .position .written) goes w), rw w (start m .pre .7))
+    (rw e (plain r rs s (now (a .out)) (a .position .written) goes w), rw w (start m .pre .4))
 
 returns : tie.Need-returns
 unfolding stepOf branch

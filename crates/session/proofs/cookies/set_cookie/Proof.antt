@@ -4,7 +4,7 @@ use denote.Ref.{now}
 use native.Mathlib.Omega.{arith}
 use lib.ListN.{length-set}
 use Rattle.machine.specs.Session.{presence, setCookie}
-use Rattle.session.proofs.KeyBits.{with-key}
+use Rattle.policy.proofs.KeyBits.{with-key}
 use Rattle.session.proofs.cookies.set_cookie.Statement.{statement}
 use Rattle.session.proofs.cookies.set_cookie.Tie as tie
 

@@ -2,7 +2,7 @@
 use borrow.Author.Needs.{needs}
 use mathlib.Core.Path.{refl}
 use Rattle.machine.specs.Session.{storeCookie}
-use Rattle.machine.proofs.Choices.{chosen, left-out}
+use Rattle.prelude.proofs.Choices.{chosen, left-out}
 use Rattle.session.proofs.cookies.store_cookie.Statement.{statement}
 use Rattle.session.proofs.cookies.store_cookie.Tie as tie
 

@@ -4,10 +4,10 @@ use borrow.Author.Needs.{needs}
 use denote.Ref.{now}
 use mathlib.Core.Path.{_≡_, refl, sym, _∙_}
 use native.Mathlib.Omega.{arith}
-use Rattle.machine.specs.Choice.{branch, keep}
+use Rattle.prelude.specs.Choice.{branch, keep}
 use Rattle.machine.specs.Policy.{hostKeys}
 use Rattle.machine.specs.Session.{storeCookies}
-use Rattle.session.proofs.KeyBits.{none-has}
+use Rattle.policy.proofs.KeyBits.{none-has}
 use Rattle.session.proofs.KeyLoops.{Storing, storing-goes-on}
 use Rattle.session.proofs.cookies.store_cookies.Statement.{statement}
 use Rattle.session.proofs.cookies.store_cookies.Tie as tie
@@ -34,7 +34,7 @@ loop-again c =
     (c .before .before .before .before .loop-test .taken) (l .inv) (call .kept .1 .0) (call .ensures)
 
 same-length : tie.Need-same-length Inv-loop μ-loop
-same-length c = c .before .loop .inv .long ∙ sym (c .before .before .before .before .before .pre .1)
+same-length c = c .before .loop .inv .long ∙ sym (c .before .before .before .before .before .pre .0 .whole)
 
 returns-2 : tie.Need-returns-2 Inv-loop μ-loop
 unfolding storeCookies keep

@@ -1,7 +1,7 @@
 -- `requests::value_in` meets its contract: the test is that the key is in the map.
 use borrow.Author.Needs.{needs}
 use mathlib.Core.Path.{refl}
-use Rattle.machine.proofs.Choices.{chosen, left-out}
+use Rattle.prelude.proofs.Choices.{chosen, left-out}
 use Rattle.session.proofs.requests.value_in.Statement.{statement}
 use Rattle.session.proofs.requests.value_in.Tie as tie
 

@@ -3,7 +3,7 @@ use borrow.Author.Needs.{needs}
 use borrow.Author.Tests.{not-true, not-false}
 use denote.Ref.{now}
 use mathlib.Core.Path.{sym, _∙_}
-use Rattle.session.proofs.SoundStates.{free-sound, no-url, misfit, document, neither, script}
+use Rattle.session.proofs.ConnectionTests.{free-sound, no-url, misfit, document, neither, script}
 use Rattle.session.proofs.soundness.connection_sound.Statement.{statement}
 use Rattle.session.proofs.soundness.connection_sound.Tie as tie
 

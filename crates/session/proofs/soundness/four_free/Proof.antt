@@ -1,7 +1,7 @@
 -- `soundness::four_free` meets its contract: two pairs joined are 0 just where each of the four words is.
 use borrow.Author.Needs.{needs}
 use denote.Ref.{now}
-use Rattle.records.proofs.Cookies.{or-zero}
+use Rattle.prelude.proofs.Bits.{or-zero}
 use Rattle.machine.specs.Session.{connectionWord}
 use Rattle.session.proofs.Fours.{four-free}
 use Rattle.session.proofs.soundness.four_free.Statement.{statement}

@@ -1,5 +1,5 @@
 -- `soundness::is_document` meets its contract: the shape is a range.
-use Rattle.session.proofs.SoundStates.{document-range}
+use Rattle.session.proofs.ConnectionTests.{document-range}
 use Rattle.session.proofs.soundness.is_document.Statement.{statement}
 use Rattle.session.proofs.soundness.is_document.Tie as tie
 

@@ -1,7 +1,7 @@
 -- `soundness::is_script` meets its contract: kind and origin are a range, and the other two tests are the shape's own.
 use borrow.Author.Needs.{needs}
 use Rattle.machine.specs.Session.{handlerOf, urlOf}
-use Rattle.session.proofs.SoundStates.{script-ranges}
+use Rattle.session.proofs.ConnectionTests.{script-ranges}
 use Rattle.session.proofs.soundness.is_script.Statement.{statement}
 use Rattle.session.proofs.soundness.is_script.Tie as tie
 

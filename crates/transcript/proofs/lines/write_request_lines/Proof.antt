@@ -8,7 +8,7 @@ use lib.ListN.{length, drop, length-drop, drop-of-length-le}
 use Rattle.records.specs.declared.Direction.the-variants.{Request}
 use Rattle.records.specs.Codec.{decoded, firstRecord}
 use Rattle.transcript.specs.Lines.{sentLines}
-use Rattle.transcript.proofs.Requests.{number, firstOf, first-within, lines-end, lines-none}
+use Rattle.transcript.proofs.Requests.{number, firstRequest, first-within, lines-end, lines-none}
 use Rattle.transcript.proofs.Printing.{rest-is, first-taken, Printing, printing-begins, request-bytes, request-room, printing-goes-on, printing-ends}
 use borrow.Author.Needs.{needs}
 use Rattle.transcript.proofs.lines.write_request_lines.Statement.{statement}
@@ -40,7 +40,7 @@ within c =
     let l = c .before .before .before in
     omega (arith, sized c, first-within (left l), length-drop (l .loop .from) (bytes l), c .before .before .loop-test .taken)
 
-read : (c : tie.After-decode Inv-loop μ-loop) → c .decode .result ≡ firstOf (left (c .before .before .before .before .before))
+read : (c : tie.After-decode Inv-loop μ-loop) → c .decode .result ≡ firstRequest (left (c .before .before .before .before .before))
 read c =
     let l = c .before .before .before .before .before in
     c .decode .ensures ∙ ap (decoded Request) (first-taken (bytes l) (l .loop .from) (c .before .before .first-length .result) (sized (c .before .before)))

@@ -1,13 +1,12 @@
 -- The laws of a choice, and of what a test keeps of a list.
-use Prim.Native.Nat.{ℕ}
 use mathlib.Core.Bool.{Bool, true, false, not, _&&_, true≢false, false≢true}
 use mathlib.Core.List.{List, [], _∷_, _++_, map}
 use mathlib.Core.Logic.{_⊎_, inl, inr}
-use mathlib.Core.Path.{_≡_, refl, sym, ap, _∙_, subst}
-use lib.Dec.{T, ltb}
+use mathlib.Core.Path.{_≡_, refl, sym, ap, _∙_}
+use lib.Dec.{T}
 use lib.Ieee.Fits.{and-i}
 use store.Enc.{and-l, and-r}
-use Rattle.machine.specs.Choice.{branch, keep}
+use Rattle.prelude.specs.Choice.{branch, keep}
 
 -- a test passes or fails
 pub either : (b : Bool) → T b ⊎ T (not b)
@@ -17,6 +16,15 @@ either false = inr tt
 pub is-true : (b : Bool) → T b → b ≡ true
 is-true true t = refl
 is-true false t = absurd t
+
+pub is-false : (b : Bool) → T (not b) → b ≡ false
+is-false true t = absurd t
+is-false false t = refl
+
+-- the test of a refusal that does not apply
+pub passes : (b : Bool) → not b ≡ false → T b
+passes true e = tt
+passes false e = absurd (true≢false e)
 
 -- for `search`: the conjuncts of a passed test, and a test joined of them
 pub ruleset parts = (and-l, and-r)
@@ -38,6 +46,13 @@ module _ {A : Type 0} where
   unfolding branch
   branch-false true x y t = absurd t
   branch-false false x y t = refl
+
+  -- a choice by tests that all pass, in two steps
+  pub in-two : (a b c : Bool) (x y : A) → branch (a && (b && c)) x y ≡ branch (a && b) (branch c x y) y
+  unfolding branch
+  in-two true true c x y = refl
+  in-two true false c x y = refl
+  in-two false b c x y = refl
 
   -- what holds of either value, under its test, holds of the choice
   pub one : (P : A → Type 0) (b : Bool) {x y : A} → (T b → P x) → (T (not b) → P y) → P (branch b x y)
@@ -64,16 +79,6 @@ two R true true e f g = f tt
 two R true false e f g = absurd (true≢false e)
 two R false true e f g = absurd (false≢true e)
 two R false false e f g = g tt
-
--- a number that is 0 is not the first refusal's: its test passed, and the others go on
-pub first-passed : (b : Bool) (n y : ℕ) → T (ltb 0 n) → branch b n y ≡ 0 → T (not b) × (y ≡ 0)
-unfolding branch
-first-passed true n y l e = absurd (subst (λ (x : ℕ). T (ltb 0 x)) e l)
-first-passed false n y l e = (tt, e)
-
-pub passed : (b : Bool) (n y : ℕ) → T (ltb 0 n) → branch (not b) n y ≡ 0 → T b × (y ≡ 0)
-passed true n y l e = first-passed (not true) n y l e
-passed false n y l e = absurd (first-passed (not false) n y l e .0)
 
 -- ---- lists
 

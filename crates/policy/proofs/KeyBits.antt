@@ -1,26 +1,24 @@
--- A map of keys as a word: its bits are the keys that pass, and a key is added by "or" or, above the others, by a sum.
-use Prim.Native.Nat.{ℕ, zero, suc, _+_, _*_, _/_, _%_, _^_, _<_, _≤_, max, suc-le-suc}
+-- A map of keys as a word: its bits are the keys that pass, a key is added by "or" or, above the others, by a sum, and two maps share keys by "and".
+use Prim.Native.Nat.{ℕ, zero, suc, _+_, _*_, _/_, _%_, _^_, _<_, _≤_, min, max, suc-le-suc}
 use native.Mathlib.Nat.{zero-lt-suc, lt-trans, lt-of-le-of-lt, lt-of-lt-of-le, one-mul, pow-suc, div-one, mod-one, mod-eq-of-lt, div-eq-of-lt}
 use native.Mathlib.Numerals.{add-one}
 use native.Mathlib.Omega.{arith}
-use mathlib.Core.Bool.{Bool, true, false, _||_}
+use mathlib.Core.Bool.{Bool, true, false, _&&_, _||_}
 use mathlib.Core.Path.{_≡_, refl, sym, ap, _∙_}
 use lib.Dec.{lit<, eqb, eqb·suc-zero, eqb·zero-suc, eqb·suc-suc}
 use borrow.Author.Tests.{eqb-true, eqb-false}
-use lib.Bits.{bitOr, or-step, or-shr}
-use lib.Pow.{pow-pos, shr-shr, mod-pow-add, pow-lt, pow-mono}
+use lib.Bits.{bitAnd, and-step, and-shr, and-le-r, bitOr, or-step, or-shr}
+use lib.Pow.{pow-pos, mod-pow-add, pow-lt, pow-mono}
 use mir.Val.{boolByte}
-use Rattle.machine.specs.Choice.{branch}
+use Rattle.prelude.specs.Choice.{branch}
+use Rattle.prelude.proofs.Bits.{half-bit}
 use Rattle.machine.specs.Policy.{hostKeys}
 use Rattle.machine.specs.Session.{has, mapBelow, keyMap}
-use Rattle.machine.proofs.KeyMaps.{map-below}
+use Rattle.machine.proofs.KeyMaps.{has-map, map-below}
 
 -- what the code's shift makes
 single : (k : ℕ) → k < hostKeys → 1 * 2 ^ k % 4294967296 ≡ 2 ^ k
 single k l = rw (one-mul (2 ^ k)) (mod-eq-of-lt (lt-trans (pow-lt l) (lit< tt)))
-
-half-bit : (y j : ℕ) → y / 2 / 2 ^ j % 2 ≡ y / 2 ^ suc j % 2
-half-bit y j = ap (λ (x : ℕ). x % 2) (shr-shr y 1 j ∙ ap (λ (i : ℕ). y / 2 ^ i) (omega arith))
 
 -- the digit that a bit is
 digit : (y : ℕ) (b : Bool) → eqb (y / 1 % 2) 1 ≡ b → y % 2 ≡ branch b 1 0
@@ -81,6 +79,30 @@ or-bit x k j =
 pub with-key : (x k : ℕ) → k < hostKeys → bitOr x (1 * 2 ^ k % 4294967296) % 256 ≡ keyMap (λ j. eqb j k || has x j)
 with-key x k l =
     ap (λ (y : ℕ). bitOr x y % 256) (single k l) ∙ of-bits hostKeys (bitOr x (2 ^ k)) (λ j. eqb j k || has x j) (λ j _. or-bit x k j)
+
+-- ---- the keys of a map that a test passes
+
+both-bits : (x y : ℕ) → x < 2 → y < 2 → eqb (min x y) 1 ≡ eqb x 1 && eqb y 1
+both-bits zero zero l k = refl
+both-bits zero (suc zero) l k = refl
+both-bits (suc zero) zero l k = refl
+both-bits (suc zero) (suc zero) l k = refl
+both-bits zero (suc (suc y)) l k = absurd (omega arith)
+both-bits (suc zero) (suc (suc y)) l k = absurd (omega arith)
+both-bits (suc (suc x)) y l k = absurd (omega arith)
+
+and-bit : (x y j : ℕ) → has (bitAnd x y) j ≡ has x j && has y j
+unfolding has
+and-bit x y j =
+    let e : bitAnd x y / 2 ^ j % 2 ≡ min (x / 2 ^ j % 2) (y / 2 ^ j % 2) =
+    ap (λ (z : ℕ). z % 2) (and-shr x y j) ∙ omega (arith, and-step (x / 2 ^ j) (y / 2 ^ j)) in
+    ap (λ (z : ℕ). eqb z 1) e ∙ both-bits (x / 2 ^ j % 2) (y / 2 ^ j % 2) (omega arith) (omega arith)
+
+pub kept-keys : (x : ℕ) (test : ℕ → Bool) → bitAnd x (keyMap test) ≡ keyMap (λ k. has x k && test k)
+kept-keys x test =
+    sym (mod-eq-of-lt (lt-of-le-of-lt (and-le-r x (keyMap test)) (map-below hostKeys test)))
+    ∙ of-bits hostKeys (bitAnd x (keyMap test)) (λ k. has x k && test k)
+    (λ j l. and-bit x (keyMap test) j ∙ ap (λ (b : Bool). has x j && b) (has-map hostKeys test j l))
 
 -- ---- a key added above the others
 

@@ -1,0 +1,92 @@
+-- The laws of the first refusal that applies.
+use Prim.Native.Nat.{ℕ, zero, suc}
+use mathlib.Core.Bool.{Bool, true, false, not, _&&_, true≢false}
+use mathlib.Core.List.{List, [], _∷_, _++_}
+use mathlib.Core.Path.{_≡_, refl, sym, ap, subst}
+use lib.Dec.{T, ltb, eqb, eqb·suc-zero}
+use lib.ListN.{getD, take}
+use store.Enc.{and-l, and-r}
+use Rattle.prelude.specs.Choice.{branch}
+use Rattle.prelude.specs.Refusals.{accepted, Refusal, refuse, firstOf}
+
+abbrev pub NoneOf : {A : Type 0} → List (Refusal A) → Type 0
+NoneOf [] = Unit {0}
+NoneOf (r ∷ rs) = (r .applies ≡ false) × NoneOf rs
+
+module _ {A : Type 0} (x : A) where
+  -- refusal n, counted from 0
+  abbrev pub nth : ℕ → List (Refusal A) → Refusal A
+  nth n rs = getD rs n (refuse x false)
+
+  pub first-is : (n : ℕ) (rs : List (Refusal A)) → NoneOf (take n rs) → nth n rs .applies ≡ true → firstOf rs x ≡ nth n rs .answer
+  unfolding firstOf branch
+  first-is n [] none e = absurd (true≢false (sym e))
+  first-is zero (r ∷ rs) none e = rw e
+  first-is (suc n) (r ∷ rs) none e = rw (none .0) (first-is n rs (none .1) e)
+
+  -- one test more that does not apply
+  pub none-next : (n : ℕ) (rs : List (Refusal A)) → NoneOf (take n rs) → nth n rs .applies ≡ false → NoneOf (take (suc n) rs)
+  none-next n [] none e = tt
+  none-next zero (r ∷ rs) none e = (e, tt)
+  none-next (suc n) (r ∷ rs) none e = (none .0, none-next n rs (none .1) e)
+
+  pub none-applies : (rs : List (Refusal A)) → NoneOf rs → firstOf rs x ≡ x
+  unfolding firstOf branch
+  none-applies [] none = refl
+  none-applies (r ∷ rs) none = rw (none .0) (none-applies rs (none .1))
+
+  -- two lists in a row: the second answers where the first does not
+  pub in-a-row : (rs qs : List (Refusal A)) → firstOf (rs ++ qs) x ≡ firstOf rs (firstOf qs x)
+  unfolding firstOf
+  in-a-row [] qs = refl
+  in-a-row (r ∷ rs) qs = ap (branch (r .applies) (r .answer)) (in-a-row rs qs)
+
+-- ---- numbers
+
+-- none of the numbers is that of what is accepted
+abbrev pub numbered : List (Refusal ℕ) → Bool
+numbered [] = true
+numbered (r ∷ rs) = ltb 0 (r .answer) && numbered rs
+
+-- so a list goes on with another number just where it refuses nothing
+pub accepted-on : (rs : List (Refusal ℕ)) (y : ℕ) → T (numbered rs) → eqb (firstOf rs y) accepted ≡ eqb (firstOf rs accepted) accepted && eqb y accepted
+unfolding firstOf branch
+accepted-on [] y t = refl
+accepted-on (r ∷ rs) y t =
+    go (r .applies) (r .answer) (and-l (ltb 0 (r .answer)) (numbered rs) t) (accepted-on rs y (and-r (ltb 0 (r .answer)) (numbered rs) t))
+  where
+    go : (b : Bool) (n : ℕ) → T (ltb 0 n) → eqb (firstOf rs y) accepted ≡ eqb (firstOf rs accepted) accepted && eqb y accepted
+        → eqb (branch b n (firstOf rs y)) accepted ≡ eqb (branch b n (firstOf rs accepted)) accepted && eqb y accepted
+    go true zero l rest = absurd l
+    go true (suc n) l rest = rw (eqb·suc-zero n)
+    go false n l rest = rest
+
+-- what it refuses it refuses whatever follows
+pub refused-on : (rs : List (Refusal ℕ)) (y : ℕ) → (firstOf rs accepted ≡ accepted → ⊥) → firstOf rs y ≡ firstOf rs accepted
+unfolding firstOf branch
+refused-on [] y other = absurd (other refl)
+refused-on (r ∷ rs) y other = go (r .applies) other (refused-on rs y)
+  where
+    go : (b : Bool) → (branch b (r .answer) (firstOf rs accepted) ≡ accepted → ⊥) → ((firstOf rs accepted ≡ accepted → ⊥) → firstOf rs y ≡ firstOf rs accepted)
+        → branch b (r .answer) (firstOf rs y) ≡ branch b (r .answer) (firstOf rs accepted)
+    go true other rest = refl
+    go false other rest = rest other
+
+-- and goes on past a test that passes
+pub accepted-past : (n : ℕ) (b : Bool) (rs : List (Refusal ℕ)) → T (ltb 0 n) → eqb (firstOf (refuse n (not b) ∷ rs) accepted) accepted ≡ b && eqb (firstOf rs accepted) accepted
+unfolding firstOf branch
+accepted-past n true rs l = refl
+accepted-past zero false rs l = absurd l
+accepted-past (suc n) false rs l = eqb·suc-zero n
+
+-- where nothing is refused no test applied
+pub none-applied : (rs : List (Refusal ℕ)) → T (numbered rs) → firstOf rs accepted ≡ accepted → NoneOf rs
+unfolding firstOf branch
+none-applied [] t e = tt
+none-applied (r ∷ rs) t e =
+    let first = go (r .applies) (r .answer) (and-l (ltb 0 (r .answer)) (numbered rs) t) e in
+    (first .0, none-applied rs (and-r (ltb 0 (r .answer)) (numbered rs) t) (first .1))
+  where
+    go : (b : Bool) (n : ℕ) → T (ltb 0 n) → branch b n (firstOf rs accepted) ≡ accepted → (b ≡ false) × (firstOf rs accepted ≡ accepted)
+    go true n l e = absurd (subst (λ (k : ℕ). T (ltb 0 k)) e l)
+    go false n l e = (refl, e)

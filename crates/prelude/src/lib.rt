@@ -1,0 +1,1 @@
+// No code: the definitions that every crate shares are in specs/, their laws in proofs/.
