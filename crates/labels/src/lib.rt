@@ -24,7 +24,8 @@ impl EndpointSet {
         self.bits & other.bits == self.bits
     }
 
-    // Whether `endpoint` is in this set. An endpoint above 31 is in no set.
+    // Whether `endpoint` is in this set. An endpoint above 31 is in no set. For C alone: the crates above ask whether an endpoint's own set
+    // is within another.
     pub fn holds(self, endpoint: u32) -> bool
         ensures { λ r. ⌜ r ≡ holds (self .bits) endpoint ⌝ }
     {

@@ -12,16 +12,16 @@ use Rattle.transcript.specs.declared.counts.Counts.{Counts}
 use Rattle.transcript.specs.declared.input.InputSize.the-variants.{Short, Long, Fits}
 use Rattle.transcript.specs.declared.input.Ending.the-variants.{End, Cut}
 use Rattle.transcript.specs.declared.input.Next.the-variants.{Record, Last}
-use Rattle.transcript.specs.Input.{recordsAt, longestInput, inputSize, nextRecord, counted}
+use Rattle.transcript.specs.Input.{recordsAt, inputLimit, inputSize, nextRecord, counted}
 
-pub fits-between : (input : List ℕ) → inputSize input ≡ Fits → (recordsAt ≤ length input) × (length input ≤ longestInput)
-fits-between input e = go (ltb (length input) recordsAt) (ltb longestInput (length input)) refl refl e
+pub fits-between : (input : List ℕ) → inputSize input ≡ Fits → (recordsAt ≤ length input) × (length input ≤ inputLimit)
+fits-between input e = go (ltb (length input) recordsAt) (ltb inputLimit (length input)) refl refl e
   where
-    go : (a b : Bool) → ltb (length input) recordsAt ≡ a → ltb longestInput (length input) ≡ b → cond a Short (cond b Long Fits) ≡ Fits
-        → (recordsAt ≤ length input) × (length input ≤ longestInput)
+    go : (a b : Bool) → ltb (length input) recordsAt ≡ a → ltb inputLimit (length input) ≡ b → cond a Short (cond b Long Fits) ≡ Fits
+        → (recordsAt ≤ length input) × (length input ≤ inputLimit)
     go true b p q e = let z : _≡_ {A = ℕ} 0 1 = cc in absurd (omega arith)
     go false true p q e = let z : _≡_ {A = ℕ} 0 1 = cc in absurd (omega arith)
-    go false false p q e = (ltb-false (length input) recordsAt p, ltb-false longestInput (length input) q)
+    go false false p q e = (ltb-false (length input) recordsAt p, ltb-false inputLimit (length input) q)
 
 pub record-within : (input : List ℕ) (at start n : ℕ) → nextRecord input at ≡ Record start n → (start ≡ at + 1) × (start + n ≤ length input)
 record-within input at start n e = go (ltb at (length input)) (ltb (length input - (at + 1)) (getD input at 0)) refl refl e

@@ -22,12 +22,12 @@ policyBytes = 4 * policyWords
 abbrev pub recordsAt : ℕ
 recordsAt = policyBytes + tableBytes
 
-abbrev pub longestInput : ℕ
-longestInput = 65536
+abbrev pub inputLimit : ℕ
+inputLimit = 65536
 
 -- an input is short where it has no room for policy and script table, and long above the limit
 abbrev pub inputSize : List ℕ → InputSize
-inputSize input = cond (ltb (length input) recordsAt) Short (cond (ltb longestInput (length input)) Long Fits)
+inputSize input = cond (ltb (length input) recordsAt) Short (cond (ltb inputLimit (length input)) Long Fits)
 
 -- words of four bytes each, most significant first
 unfoldable pub wordsOf : ℕ → List ℕ → List ℕ

@@ -12,7 +12,7 @@ pub const POLICY_BYTES: usize = 4 * WORDS;
 // The records follow the policy and the script table.
 pub const RECORDS_AT: usize = POLICY_BYTES + TABLE_BYTES;
 
-pub const LONGEST_INPUT: usize = 65_536;
+pub const INPUT_LIMIT: usize = 65_536;
 
 // Whether an input is one that walk takes.
 pub enum InputSize {
@@ -27,7 +27,7 @@ pub fn input_size(input: &[u8]) -> InputSize
     if input.len() < RECORDS_AT {
         return InputSize::Short;
     }
-    if LONGEST_INPUT < input.len() {
+    if INPUT_LIMIT < input.len() {
         return InputSize::Long;
     }
     InputSize::Fits

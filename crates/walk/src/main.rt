@@ -2,7 +2,7 @@
 // "Program walk"). The text of every line is `transcript`'s.
 ghost use Prim.Native.Nat.{_≤_};
 ghost use lib.ListN.{length};
-ghost use Rattle.transcript.specs.Input.{recordsAt, longestInput};
+ghost use Rattle.transcript.specs.Input.{recordsAt, inputLimit};
 use libc::STDIN_FILENO;
 use libc::STDOUT_FILENO;
 use monitor::Answer;
@@ -10,14 +10,14 @@ use monitor::OUTPUT_ROOM;
 use monitor::STATE_WORDS;
 use transcript::Counts;
 use transcript::Ending;
+use transcript::INPUT_LIMIT;
 use transcript::InputSize;
-use transcript::LONGEST_INPUT;
 use transcript::Next;
 use transcript::POLICY_BYTES;
 use transcript::RECORDS_AT;
 
 // One byte more than the longest input, so that a longer one is seen.
-const INPUT_ROOM: usize = LONGEST_INPUT + 1;
+const INPUT_ROOM: usize = INPUT_LIMIT + 1;
 
 // What `transcript` asks for a record's lines.
 const TEXT_BYTES: usize = 44 + 5 * OUTPUT_ROOM;
@@ -47,7 +47,7 @@ fn print_size(size: InputSize) {
 }
 
 fn feed_input(input: &[u8])
-    requires { ⌜ (recordsAt ≤ length (now input)) × (length (now input) ≤ longestInput) ⌝ }
+    requires { ⌜ (recordsAt ≤ length (now input)) × (length (now input) ≤ inputLimit) ⌝ }
 {
     let policy = transcript::policy_words(input);
     let mut state = [0u32; STATE_WORDS];
@@ -55,7 +55,7 @@ fn feed_input(input: &[u8])
 }
 
 fn feed_records(policy: &[u32], input: &[u8], state: &mut [u32])
-    requires { ⌜ (recordsAt ≤ length (now input)) × (length (now input) ≤ longestInput) ⌝ }
+    requires { ⌜ (recordsAt ≤ length (now input)) × (length (now input) ≤ inputLimit) ⌝ }
 {
     let scripts = &input[POLICY_BYTES..RECORDS_AT];
     let mut counts = Counts {

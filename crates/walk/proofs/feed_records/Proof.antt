@@ -4,7 +4,7 @@ use mathlib.Core.Path.{_≡_, sym, _∙_}
 use native.Mathlib.Omega.{arith}
 use denote.Ref.{now}
 use lib.ListN.{length}
-use Rattle.transcript.specs.Input.{recordsAt, longestInput}
+use Rattle.transcript.specs.Input.{recordsAt, inputLimit}
 use Rattle.transcript.proofs.Inputs.{record-within, counted-more}
 use borrow.Author.Needs.{needs}
 use Rattle.walk.proofs.feed_records.Statement.{statement}
@@ -25,7 +25,7 @@ within c =
     record-within (now (l .before .before .before .before .before .args .input)) (l .loop .at) (c .start .given .0 .0) (c .start .given .0 .1 .0) (sym (c .before .before .next-record .ensures) ∙ c .start .given .1)
 
 -- the records so far are fewer than the bytes that an input can have
-few : (c : tie.After-start Inv-loop μ-loop) → let l = c .before .before .before in l .loop .counts .accepted + l .loop .counts .refused < longestInput
+few : (c : tie.After-start Inv-loop μ-loop) → let l = c .before .before .before in l .loop .counts .accepted + l .loop .counts .refused < inputLimit
 few c =
     let l = c .before .before .before in
     omega (arith, within c .0, within c .1, l .loop .inv .0, l .before .before .before .before .before .pre .1)
