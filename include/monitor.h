@@ -14,11 +14,15 @@
  *         send_requests(out, answer.bytes);
  *     }
  *
- * What the monitor promises about secrecy it promises for a session as a whole: the same policy and the same script table throughout,
- * and a state that nobody else writes between calls.
+ * What the monitor promises about secrecy it promises for a session as a whole: from a state of zeros on, the same policy and the same script
+ * table throughout, and a state that nobody else writes between calls. It is a promise about the requests and the state. The answer is
+ * for the caller alone: its number and counts may depend on what others must not learn.
  *
- * Words are in the machine's byte order. A set of endpoints is a word: bit a (0 to 31) stands for endpoint a, which is http at
- * host a for a below 16, and https at host a - 16 from there on (see labels.h). */
+ * Words are in the machine's byte order. A host is 0 to 15; an address is 0 to 31, http at host a for a below 16 and https at host a - 16
+ * from there on. Each address is an endpoint. A set of endpoints is a word: bit a stands for endpoint a. A set is within another where each
+ * of its endpoints is in the other (see labels.h). Readers are those who may learn of something, writers those who may have shaped it.
+ * The message endpoint of a URL is its address: where a message to it goes. The event endpoint is http at its host, for https too: whoever
+ * sees that a message goes to that host. */
 #ifndef MONITOR_H
 #define MONITOR_H
 
@@ -31,15 +35,19 @@ extern "C" {
 
 /* The length of each buffer. An output may be longer; any other difference is refused. */
 enum {
-    /* words 0 to 191: 64 URLs of address (0 to 31), readers, writers; no URL: 255, 0, 0
+    /* words 0 to 191: 64 URLs of address (0 to 31), readers, writers; no URL: 255, 0, 0, all three
      * words 192 to 447: readers, writers of the cookie of host h (0 to 15) and key k (0 to 7), at 192 + 2 * (8 * h + k)
-     * words 448 to 543: 32 connections of readers, script readers, writers */
+     * words 448 to 543: 32 connections of readers, script readers, writers
+     * Well formed: each URL has its event endpoint among its readers, and each connection's script readers are within its readers. Nothing
+     * else is asked, and any set may be empty. A policy of zeros is not well formed: it has 64 URLs without readers. */
     MONITOR_POLICY_WORDS = 544,
     /* 16 scripts of 32 steps of 4 bytes: op, a, b, c */
     MONITOR_SCRIPT_BYTES = 2048,
     /* words 0 to 127: cookie values, at 8 * h + k; words 128 to 143: for each host, the keys present as bits 0 to 7
      * words 144 to 175: connections, 0 where free, else kind << 24 | origin << 16 | handler << 8 | URL, where kind is
-     * 1 for a document (origin and handler 0) and 2 for a script's request (origin a URL, handler a script, 0 to 15) */
+     * 1 for a document (origin and handler 0) and 2 for a script's request (origin a URL, handler a script, 0 to 15)
+     * A cookie that is present may have the value 0; one that is not has it. An open connection fits its URL: the connection's readers are
+     * within the URL's, and the URL's message endpoint is among the connection's writers. */
     MONITOR_STATE_WORDS = 176,
     /* room for 32 requests, the most that one record can send */
     MONITOR_OUT_BYTES = 1184
@@ -88,22 +96,48 @@ struct monitor_answer {
     uint32_t steps;
 };
 
-/* Scripts. A step is four bytes: op, a, b, c. There are four registers of 32 bits, 0 at the start. The page is the URL that a document's response
- * came from, or the one that sent a script's request. S is the readers of scripts and J the writers of the connection of the response.
+/* Records. A record is a map byte, whose bits say which fields follow, in this order: URL (bit 0, one byte), connection (bit 1, one byte),
+ * cookies (bit 2), script (bit 3, one byte), value (bit 4), target URL (bit 5, one byte). A value has four bytes, the most significant first.
+ * Cookies are a key map byte, not 0, whose bit k stands for key k, and then a value for each key in it, lowest first. Nothing follows the last
+ * field. What is fed, by its map without and with cookies, in hexadecimal:
+ *     03      load                 URL, connection
+ *     0b 0f   document response    URL, connection, [cookies,] script
+ *     13 17   script response      URL, connection, [cookies,] value
+ *     23 27   redirect             URL, connection, [cookies,] target
+ * What is sent:
+ *     03 07   document request     URL, connection [, cookies]
+ *     0b 0f   script request       URL, connection, [cookies,] handler
+ * So 0f 00 02 05 00 00 00 07 00 00 00 09 01 is the document response of URL 0 on connection 2 that brings 7 for key 0 and 9 for key 2, and
+ * names script 1.
+ *
+ * What an accepted record does, in this order:
+ *     load        The connection is opened as a document at the URL, whatever was pending on it, and a document request goes out.
+ *     response    Its cookies are stored, the connection is freed, and then a script runs. A document response runs the script that it names,
+ *                 and the page is the connection's URL. A script response runs the connection's handler, the page is the connection's
+ *                 origin, and register 0 is the value.
+ *     redirect    Its cookies are stored. The connection moves to the target and keeps kind, origin and handler, and a request of its kind goes
+ *                 out to the target, a script request with the connection's handler.
+ *
+ * Cookies. One that a response or redirect delivers belongs to the host of the record's URL, which for a redirect is the URL that it leaves.
+ * It is stored if its readers are within the connection's and the connection's writers are within its own; else it is passed over, and the
+ * rest goes on. A request carries each cookie of its URL's host that is present and whose readers hold the URL's message endpoint, also one
+ * that the same record brought or its script wrote. A cookie that was stored or written is present from then on: nothing takes it away.
+ *
+ * Scripts. A script has 32 steps of four bytes: op, a, b, c. There are four registers of 32 bits, 0 at the start but for the value of a script
+ * response. S is the script readers and J the writers of the connection of the response.
  *     0   end
  *     1   register a = 256 * b + c
  *     2   register a = register b + register c, modulo 2^32
  *     3   register a = cookie b of the page's host, if S is within its readers and its writers are within J
  *     4   cookie a of the page's host = register b, if its readers are within S and J is within its writers; else passed over
- *     5   request URL a on connection b with handler c, whatever is pending there, if a's event endpoint is in S, b's readers are within S and within
- *         a's, a's message endpoint is among b's writers, and J is within b's writers and within a's
+ *     5   request URL a on connection b with handler c, if a's event endpoint is in S, b's readers are within S, b fits a, and J is within b's
+ *         writers and within a's writers. It opens b as a script's request with the page as its origin, whatever was pending there, and sends a
+ *         script request. The connection of the response is free by then, and may be opened too.
  *     6   if register a is 0, skip the b steps that follow
- * A script ends at step 0, at an unknown op, at a field in use that is out of range, at a read or request that is not allowed, at a read of a cookie
- * that is not present, and past its last step.
- *
- * Cookies. One that a response or redirect delivers belongs to the host of the record's URL, and is stored if its readers are within the
- * connection's and the connection's writers are within its own; else it is passed over. A request carries each cookie of its URL's host that
- * is present and whose readers hold the URL's message endpoint. */
+ * A script ends at step 0; at an unknown op; at a field that its op uses and that is out of range (a register above 3, a key above 7, a URL that
+ * the policy does not have, a connection above 31, a handler above 15), allowed or not; at a read or request that is not allowed; at a read
+ * of a cookie that is not present; and past its last step. Bytes that an op does not use are ignored. Each step that is met counts, the one
+ * that ends the script too; steps that are skipped do not, and nothing is met past the last. */
 
 /* Feeds one record. Policy, script table and record are read; state and output are changed only where the answer is MONITOR_ACCEPTED, and
  * of the output only the first `bytes` bytes. A refusal changes nothing.
@@ -113,14 +147,7 @@ struct monitor_answer {
  * bytes, policy and state in words); state and output overlap no other buffer; and nobody else writes a buffer, or reads state or
  * output, during the call. Calls on different states may run at the same time.
  *
- * A record is a map byte, whose bits say which fields follow, in this order: URL (bit 0, one byte), connection (bit 1, one byte), cookies
- * (bit 2: a key map byte, not 0, and for each key in it, lowest first, a value), script (bit 3, one byte), value (bit 4),
- * target URL (bit 5, one byte). A value has four bytes, the most significant first. With and without cookies the maps are:
- *     03      load: opens the connection as a document at the URL, whatever was pending on it
- *     0b 0f   response to a document: stores cookies, frees the connection and runs the script
- *     13 17   response to a script's request: the same, with the connection's handler at its origin and the value in register 0
- *     23 27   redirect: stores cookies, and asks for the target on the same connection
- * and of requests 03 07 for a document, 0b 0f for a script's request, whose script field is the handler. */
+ * Records, and what each of them does, are described above. */
 struct monitor_answer monitor_feed(const uint32_t *policy, size_t policy_words,
                                    const uint8_t *scripts, size_t script_bytes,
                                    uint32_t *state, size_t state_words,
