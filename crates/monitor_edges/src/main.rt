@@ -1,24 +1,43 @@
 // Runs calls of the monitor as the directives of standard input say; what it writes is held to the file stdout.
 // The comments at the top of the file stdin say what a directive is.
-ghost use mathlib.Core.Path.{_≡_};
 ghost use Prim.Native.Nat.{_+_, _<_, _≤_};
 ghost use lib.ListN.{length};
 use libc::STDIN_FILENO;
 use libc::STDOUT_FILENO;
 use monitor::Answer;
+use monitor::OUTPUT_ROOM;
+use policy::words::URL_ROWS;
+use scripts::TABLE_BYTES;
 
-// What the directives set, in one array: the words of a policy, from 0, of a script table, a step to a word, and of a state, each with more
-// room than is right; then the lengths to lend of policy, script table, state and output, and the byte that fills the output.
-const SCRIPTS: usize = 600;
+// Room for standard input; what does not fit would be missing from the output.
+const TEXT_ROOM: usize = 262_144;
 
-const STATE: usize = 1125;
+// Room for a record, longer than any that can be read.
+const RECORD_ROOM: usize = 300;
 
-const LENGTHS: usize = 1325;
+// Every other buffer has room for so much more than is right.
+const SPARE: usize = 128;
+
+const POLICY_ROOM: usize = policy::words::WORDS + SPARE;
+
+const STEP_ROOM: usize = TABLE_BYTES / 4 + SPARE;
+
+const STATE_ROOM: usize = session::words::WORDS + SPARE;
+
+// What the directives set, in one array: the words of a policy, from 0, of a script table, a step to a word, and of a state; then the
+// lengths to lend of policy, script table, state and output, and the byte that fills the output.
+const SCRIPTS: usize = POLICY_ROOM;
+
+const STATE: usize = SCRIPTS + STEP_ROOM;
+
+const LENGTHS: usize = STATE + STATE_ROOM;
+
+const END: usize = LENGTHS + 5;
 
 fn main() {
-    let mut text = io::large_buffer();
+    let mut text = [0u8; TEXT_ROOM];
     let n = io::read_full(STDIN_FILENO, &mut text);
-    let mut words = [0u32; 1330];
+    let mut words = [0u32; END];
     lines(&text[..n], &mut words);
 }
 
@@ -54,9 +73,9 @@ fn line(text: &[u8], words: &mut [u32]) {
         b'p' => set(text, words, 0, SCRIPTS),
         b's' => set(text, words, SCRIPTS, STATE),
         b'w' => set(text, words, STATE, LENGTHS),
-        b'l' => set(text, words, LENGTHS, 1330),
-        b'r' => keep(words, feed(text, words)),
-        b't' => tried(text, words),
+        b'l' => set(text, words, LENGTHS, END),
+        b'r' => feed(text, words, true),
+        b't' => feed(text, words, false),
         _ => comment(text),
     }
 }
@@ -74,22 +93,24 @@ fn reset(words: &mut [u32]) {
 
 // No URL (address 255 in each row), all else 0; the right lengths.
 fn first_word(i: usize) -> u32 {
-    if i < 192 {
+    if i < 3 * URL_ROWS {
         return if i % 3 == 0 { 255 } else { 0 };
     }
-    match i {
-        1325 => 544,
-        1326 => 2048,
-        1327 => 176,
-        1328 => 1184,
-        1329 => 0xee,
-        _ => 0,
+    if i < LENGTHS {
+        return 0;
+    }
+    match i - LENGTHS {
+        0 => policy::words::WORDS as u32,
+        1 => TABLE_BYTES as u32,
+        2 => session::words::WORDS as u32,
+        3 => OUTPUT_ROOM as u32,
+        _ => 0xee,
     }
 }
 
 // An index into the words from start to end, and the words that go there and after.
 fn set(text: &[u8], words: &mut [u32], start: usize, end: usize)
-    requires { ⌜ start ≤ 1330 ⌝ }
+    requires { ⌜ start < 0x1_0000_0000 ⌝ }
 {
     let mut place = start + number(text, 1);
     for i in 1..text.len() {
@@ -149,29 +170,30 @@ fn put(words: &mut [u32], i: usize, value: u32) {
 
 // ---- calls
 
-fn tried(text: &[u8], words: &[u32]) {
-    feed(text, words);
-}
-
-fn keep(words: &mut [u32], state: [u32; 200]) {
-    for i in 0..200usize {
-        put(words, STATE + i, state[i]);
-    }
-}
-
-// Feeds the record, two digits to a byte, shows the directive and what the call did, and answers the state after.
-fn feed(text: &[u8], words: &[u32]) -> [u32; 200] {
-    let scripts = script_table(words);
-    let mut state = state_of(words);
-    let record = from_hex(text);
-    let n = least(text.len() / 2, 300);
+// Feeds the record, two digits to a byte, and shows the directive and what the call did; the state after is kept, or put back.
+fn feed(text: &[u8], words: &mut [u32], kept: bool) {
+    let mut scripts = [0u8; 4 * STEP_ROOM];
+    set_scripts(&mut scripts, words);
+    let mut state = [0u32; STATE_ROOM];
+    set_state(&mut state, words);
+    let mut record = [0u8; RECORD_ROOM];
+    from_hex(&mut record, text);
+    let n = least(text.len() / 2, RECORD_ROOM);
     let fill = (word(words, LENGTHS + 4) % 256) as u8;
-    let mut out = [fill; 1300];
+    let mut out = [fill; OUTPUT_ROOM + SPARE];
     let answer = lend(words, &scripts, &mut state, &record[0..n], &mut out);
     print(text);
     show(answer, words, &state);
     output(answer.bytes as usize, &out, fill);
-    state
+    if kept {
+        keep(words, &state);
+    }
+}
+
+fn keep(words: &mut [u32], state: &[u32]) {
+    for i in 0..state.len() {
+        put(words, STATE + i, state[i]);
+    }
 }
 
 // Calls the monitor with the lengths that are set.
@@ -195,35 +217,23 @@ fn least(a: usize, b: usize) -> usize
     if a < b { a } else { b }
 }
 
-fn from_hex(text: &[u8]) -> [u8; 300]
-    ensures { λ r. ⌜ length r ≡ 300 ⌝ }
-{
-    let mut bytes = [0u8; 300];
-    for i in 0..300usize {
+fn from_hex(bytes: &mut [u8], text: &[u8]) {
+    for i in 0..bytes.len() {
         bytes[i] = (digit(text, 2 * i + 1) * 16 + digit(text, 2 * i + 2)) as u8;
     }
-    bytes
 }
 
 // Each step's four bytes, the most significant first.
-fn script_table(words: &[u32]) -> [u8; 2100]
-    ensures { λ r. ⌜ length r ≡ 2100 ⌝ }
-{
-    let mut bytes = [0u8; 2100];
-    for i in 0..2100usize {
+fn set_scripts(bytes: &mut [u8], words: &[u32]) {
+    for i in 0..bytes.len() {
         bytes[i] = ((word(words, SCRIPTS + i / 4) >> (24 - i % 4 * 8)) % 256) as u8;
     }
-    bytes
 }
 
-fn state_of(words: &[u32]) -> [u32; 200]
-    ensures { λ r. ⌜ length r ≡ 200 ⌝ }
-{
-    let mut state = [0u32; 200];
-    for i in 0..200usize {
+fn set_state(state: &mut [u32], words: &[u32]) {
+    for i in 0..state.len() {
         state[i] = word(words, STATE + i);
     }
-    state
 }
 
 // The answer, and the words of the state that changed.
@@ -233,8 +243,8 @@ fn show(answer: Answer, words: &[u32], state: &[u32]) {
     print_number(answer.bytes);
     print_number(answer.steps);
     print(b" :");
-    for i in 0..200usize {
-        change(i, word(words, STATE + i), word(state, i));
+    for i in 0..state.len() {
+        change(i, word(words, STATE + i), state[i]);
     }
 }
 

@@ -6,11 +6,11 @@ use Rattle.monitor_edges.proofs.from_hex.Statement.{statement}
 use Rattle.monitor_edges.proofs.from_hex.Tie as tie
 
 abbrev Inv-loop : tie.InvT-loop
-Inv-loop text bytes₀ i₀ bytes i = (i ≤ 300) × (lib.ListN.length bytes ≡ 300)
+Inv-loop bytes₀ text i₀ i-end bytes i = (i ≤ i-end) × (i-end ≡ lib.ListN.length bytes) × (lib.ListN.length bytes ≡ lib.ListN.length bytes₀)
 
 abbrev μ-loop : tie.MeasureT-loop
-μ-loop text bytes₀ i₀ bytes i = 300 - i
+μ-loop bytes₀ text i₀ i-end bytes i = i-end - i
 
 pub from-hex-spec : {M : Type 1} → statement M
 from-hex-spec =
-    tie.close (tie.spec Inv-loop μ-loop (λ c. search needs) (λ c. search needs) (λ c. search needs) (λ c κs. search needs) (λ c. search needs) (λ c. search needs) (λ c. search needs) (λ c κs. search needs) (λ c. search needs) (λ c. search needs) (λ c. search needs) (λ c. search needs) (λ c. search needs) (λ c. search needs) (λ c. search needs))
+    tie.close (tie.spec Inv-loop μ-loop (λ c. search needs) (λ c. search needs) (λ c. search needs) (λ c κs. search needs) (λ c. search needs) (λ c. search needs) (λ c. search needs) (λ c κs. search needs) (λ c. search needs) (λ c. search needs) (λ c. search needs) (λ c. search needs) (λ c. search needs) (λ c. search needs) (λ c. search needs) (λ c. search needs))

@@ -6,10 +6,10 @@ use Rattle.monitor_edges.proofs.keep.Statement.{statement}
 use Rattle.monitor_edges.proofs.keep.Tie as tie
 
 abbrev Inv-loop : tie.InvT-loop
-Inv-loop words₀ state i₀ words i = (i ≤ 200) × (lib.ListN.length state ≡ 200) × (lib.ListN.length words ≡ lib.ListN.length words₀)
+Inv-loop words₀ state i₀ i-end words i = (i ≤ i-end) × (i-end ≡ lib.ListN.length state) × (lib.ListN.length words ≡ lib.ListN.length words₀)
 
 abbrev μ-loop : tie.MeasureT-loop
-μ-loop words₀ state i₀ words i = 200 - i
+μ-loop words₀ state i₀ i-end words i = i-end - i
 
 pub keep-spec : {M : Type 1} → statement M
 keep-spec =

@@ -1,0 +1,16 @@
+-- `monitor_edges::set_scripts` is safe and ends: its indices stay within what it reads and writes.
+use borrow.Author.Needs.{needs}
+use Prim.Native.Nat.{_≤_, _-_}
+use mathlib.Core.Path.{_≡_}
+use Rattle.monitor_edges.proofs.set_scripts.Statement.{statement}
+use Rattle.monitor_edges.proofs.set_scripts.Tie as tie
+
+abbrev Inv-loop : tie.InvT-loop
+Inv-loop bytes₀ words i₀ i-end bytes i = (i ≤ i-end) × (i-end ≡ lib.ListN.length bytes) × (lib.ListN.length bytes ≡ lib.ListN.length bytes₀)
+
+abbrev μ-loop : tie.MeasureT-loop
+μ-loop bytes₀ words i₀ i-end bytes i = i-end - i
+
+pub set-scripts-spec : {M : Type 1} → statement M
+set-scripts-spec =
+    tie.close (tie.spec Inv-loop μ-loop (λ c. search needs) (λ c. search needs) (λ c κs. search needs) (λ c. search needs) (λ c. search needs) (λ c. search needs) (λ c. search needs) (λ c. search needs) (λ c. search needs) (λ c. search needs) (λ c. search needs) (λ c. search needs) (λ c. search needs) (λ c. search needs))
