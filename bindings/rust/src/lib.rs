@@ -2,7 +2,7 @@
 //!
 //! The monitor stands between a web page and the network. It is fed one record at a time, keeps cookies and pending connections in a
 //! state that the caller lends, runs small scripts, and writes the requests that may go out. It has no memory of its own, allocates
-//! nothing, does not panic, and answers every content and every length: [`feed`] is the whole of it.
+//! nothing, and answers every content and every length: [`feed`] is the whole of it.
 //!
 //! A session starts from a state of zeros, and each record is fed with the state as the last call left it:
 //!
@@ -77,70 +77,70 @@ pub struct Accepted {
     pub steps: u32,
 }
 
-/// Why a record was refused: the first of these that applies.
-#[derive(Clone, Copy, Debug, PartialEq, Eq, Hash)]
-#[repr(u32)]
-pub enum Refusal {
+// One list of the refusals: for each its name, its number and its words. A number can come or go without a change elsewhere.
+macro_rules! refusals {
+    ($($(#[$doc:meta])* $name:ident = $number:literal, $words:literal;)*) => {
+        /// Why a record was refused: the first of these that applies.
+        #[derive(Clone, Copy, Debug, PartialEq, Eq, Hash)]
+        #[repr(u32)]
+        pub enum Refusal {
+            $($(#[$doc])* $name = $number,)*
+        }
+
+        impl Refusal {
+            /// Every refusal, in the order in which they are asked.
+            pub const ALL: &'static [Refusal] = &[$(Refusal::$name),*];
+
+            /// The number that C programs see.
+            pub const fn number(self) -> u32 {
+                self as u32
+            }
+
+            const fn of(number: u32) -> Option<Refusal> {
+                match number {
+                    $($number => Some(Refusal::$name),)*
+                    _ => None,
+                }
+            }
+
+            const fn words(self) -> &'static str {
+                match self {
+                    $(Refusal::$name => $words,)*
+                }
+            }
+        }
+    };
+}
+
+refusals! {
     /// The output has fewer than [`OUT_BYTES`] bytes, however few this record needs.
-    OutputShort = 1,
+    OutputShort = 1, "the output is too short";
     /// The policy does not have [`POLICY_WORDS`] words, or is not well formed: a URL with an address above 31 or without its event
     /// endpoint (http at its host) among its readers, or a connection with script readers that are not among its readers.
-    PolicyBad = 2,
+    PolicyBad = 2, "the policy has the wrong length or is not well formed";
     /// The script table does not have [`SCRIPT_BYTES`] bytes.
-    ScriptsBad = 3,
+    ScriptsBad = 3, "the script table has the wrong length";
     /// The state does not have [`STATE_WORDS`] words, or is not sound: a value of a cookie that is not present, a key above 7, or a
     /// connection that is none, names a URL that the policy does not have, or does not fit its URL. A state of zeros is sound, and a
     /// state that is sound under a policy stays sound under it, whatever is fed.
-    StateUnsound = 4,
+    StateUnsound = 4, "the state has the wrong length or is not sound";
     /// The record is malformed: no input map, cut short, too long, or cookies with an empty key map.
-    Malformed = 5,
+    Malformed = 5, "the record is malformed";
     /// The record names a URL or target that the policy does not have, a connection above 31 or a script above 15.
-    NameUnknown = 6,
+    NameUnknown = 6, "the record names a URL, connection or script that there is not";
     /// A response or redirect on a connection that is free or holds another URL, or a response of the other kind.
-    NotAwaited = 7,
+    NotAwaited = 7, "the connection does not await this record";
     /// Readers forbid it: a load's connection has readers that the URL does not have; or a redirect's connection has readers that the
     /// target does not have, or lacks the target's event endpoint.
-    ReadersForbid = 8,
+    ReadersForbid = 8, "the readers of the connection and the URL forbid it";
     /// Writers forbid it: the address of a load's URL or of a redirect's target is not among the connection's writers; or a redirect's
     /// connection has writers that the target does not have.
-    WritersForbid = 9,
-}
-
-impl Refusal {
-    /// The refusals, by number from 1.
-    pub const ALL: [Refusal; 9] = [
-        Refusal::OutputShort,
-        Refusal::PolicyBad,
-        Refusal::ScriptsBad,
-        Refusal::StateUnsound,
-        Refusal::Malformed,
-        Refusal::NameUnknown,
-        Refusal::NotAwaited,
-        Refusal::ReadersForbid,
-        Refusal::WritersForbid,
-    ];
-
-    /// The number that C programs see.
-    pub const fn number(self) -> u32 {
-        self as u32
-    }
+    WritersForbid = 9, "the writers of the connection and the URL forbid it";
 }
 
 impl fmt::Display for Refusal {
     fn fmt(&self, to: &mut fmt::Formatter<'_>) -> fmt::Result {
-        to.write_str(match self {
-            Refusal::OutputShort => "the output is too short",
-            Refusal::PolicyBad => "the policy has the wrong length or is not well formed",
-            Refusal::ScriptsBad => "the script table has the wrong length",
-            Refusal::StateUnsound => "the state has the wrong length or is not sound",
-            Refusal::Malformed => "the record is malformed",
-            Refusal::NameUnknown => {
-                "the record names a URL, connection or script that there is not"
-            }
-            Refusal::NotAwaited => "the connection does not await this record",
-            Refusal::ReadersForbid => "the readers of the connection and the URL forbid it",
-            Refusal::WritersForbid => "the writers of the connection and the URL forbid it",
-        })
+        to.write_str(self.words())
     }
 }
 
@@ -150,6 +150,11 @@ impl core::error::Error for Refusal {}
 ///
 /// Any contents and any lengths are allowed: whatever does not fit is refused. State and output change only where the record is accepted,
 /// and of the output only the first [`Accepted::bytes`] bytes; a refusal changes nothing.
+///
+/// # Panics
+///
+/// Where the library answers a number that is none of [`Refusal`]. By its contract it never does: the `libmonitor.a` that is linked would
+/// have to be of another version than this crate. Such a record is refused too, and has changed nothing.
 #[inline]
 pub fn feed(
     policy: &[u32],
@@ -179,8 +184,15 @@ pub fn feed(
             bytes: answer.bytes as usize,
             steps: answer.steps,
         }),
-        number => Err(Refusal::ALL[number as usize - 1]),
+        number => Err(Refusal::of(number).unwrap_or_else(|| unknown(number))),
     }
+}
+
+#[cold]
+fn unknown(number: u32) -> ! {
+    panic!(
+        "libmonitor.a answers {number}, which this crate does not know: they are of two versions"
+    )
 }
 
 /// What `include/monitor.h` declares.
@@ -205,5 +217,28 @@ mod c {
             out: *mut u8,
             out_bytes: usize,
         ) -> Answer;
+    }
+}
+
+#[cfg(test)]
+mod tests {
+    use super::*;
+
+    #[test]
+    fn a_number_is_that_of_its_refusal_or_of_none() {
+        let known = |number: u32| {
+            Refusal::ALL
+                .iter()
+                .find(|refusal| refusal.number() == number)
+        };
+        for number in (0..1000).chain([u32::MAX]) {
+            assert_eq!(Refusal::of(number), known(number).copied(), "{number}");
+        }
+    }
+
+    #[test]
+    #[should_panic(expected = "libmonitor.a answers 1000")]
+    fn a_number_that_is_not_known_is_told() {
+        unknown(1000);
     }
 }

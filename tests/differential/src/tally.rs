@@ -1,6 +1,10 @@
 //! The counts of a test, and the table that it ends with.
 
+use std::collections::BTreeMap;
+use std::iter::once;
+
 use reference::{Answer, Event, Seen};
+use zolherima::Refusal;
 
 use crate::case::{Kind, Played};
 
@@ -10,28 +14,16 @@ pub struct Tally {
     pub calls: u64,
     pub runs: u64,
     pub run_records: u64,
-    pub numbers: [u64; 10],
+    /// How often each number was answered.
+    pub numbers: BTreeMap<u32, u64>,
     pub most_bytes: u32,
     pub most_steps: u32,
 }
 
-const MEANINGS: [&str; 10] = [
-    "accepted",
-    "output short",
-    "policy bad",
-    "scripts bad",
-    "state unsound",
-    "malformed",
-    "name unknown",
-    "not awaited",
-    "readers forbid",
-    "writers forbid",
-];
-
 impl Tally {
     pub fn add_call(&mut self, answer: Answer) {
         self.calls += 1;
-        self.numbers[answer.number as usize] += 1;
+        *self.numbers.entry(answer.number).or_default() += 1;
         self.most_bytes = self.most_bytes.max(answer.bytes);
         self.most_steps = self.most_steps.max(answer.steps);
     }
@@ -64,10 +56,17 @@ impl Tally {
         println!("records in runs  {:>12}", self.run_records);
         println!("most output bytes{:>12}", self.most_bytes);
         println!("most steps       {:>12}", self.most_steps);
-        for (number, meaning) in MEANINGS.iter().enumerate() {
-            println!("{number} {meaning:<14} {:>12}", self.numbers[number]);
-        }
+        self.print_numbers();
         self.print_events(seen);
+    }
+
+    fn print_numbers(&self) {
+        let accepted = (0, "accepted".to_string());
+        let refusals = Refusal::ALL.iter().map(|r| (r.number(), r.to_string()));
+        for (number, meaning) in once(accepted).chain(refusals) {
+            let count = self.numbers.get(&number).copied().unwrap_or(0);
+            println!("{number:>2} {meaning:<63}{count:>12}");
+        }
     }
 
     fn print_events(&self, seen: &Seen) {
