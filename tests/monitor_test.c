@@ -10,6 +10,8 @@
 
 /* Each buffer has this much more than is right: room for lengths that are too long, and past the length that is lent a canary. */
 enum { SPARE = 64, LONGEST = 255 };
+/* steps of a script, and bytes of one */
+enum { STEPS = 32, SCRIPT = 4 * STEPS };
 
 struct buffers {
     uint32_t policy[MONITOR_POLICY_WORDS + SPARE];
@@ -76,7 +78,7 @@ static void check_answer(struct monitor_answer answer, struct lengths n)
         return;
     }
     check(n.policy == RIGHT.policy && n.scripts == RIGHT.scripts && n.state == RIGHT.state && n.out >= RIGHT.out, "a wrong length was accepted");
-    check(answer.bytes <= MONITOR_OUT_BYTES && answer.steps <= 32, "the counts are too large");
+    check(answer.bytes <= MONITOR_OUT_BYTES && answer.steps <= STEPS, "the counts are too large");
     check(memcmp(lent.state + RIGHT.state, before.state + RIGHT.state, sizeof lent.state - RIGHT.state * sizeof *lent.state) == 0,
           "a word past the state changed");
     check(memcmp(lent.out + answer.bytes, before.out + answer.bytes, sizeof lent.out - answer.bytes) == 0, "a byte past the output changed");
@@ -206,7 +208,7 @@ static void scripts(void)
     static const uint8_t reads_key_0[] = {3, 1, 0, 0, 4, 0, 1, 0};
     for (uint8_t connection = 0; connection <= 2; connection += 2) {
         store_7("the script's cookie");
-        memcpy(lent.scripts + 128, reads_key_0, sizeof reads_key_0);
+        memcpy(lent.scripts + SCRIPT, reads_key_0, sizeof reads_key_0);
         gives("the script's page", BYTES(0x03, 0, connection), ACCEPTED(8, 0), (const uint8_t[]){0x07, 0, connection, 0x01, 0, 0, 0, 7});
         gives(connection == 0 ? "a script that is stopped" : "a script that goes on", BYTES(0x0b, 0, connection, 1),
               ACCEPTED(0, connection == 0 ? 1 : 3), NOTHING);

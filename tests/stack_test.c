@@ -11,6 +11,7 @@
 #include "monitor.h"
 
 enum { STACK_BYTES = 65536, PAINT = 0x5a, MOST = 1024, SENDS = 0, REGISTERS = 1, WRITES = 2 };
+enum { STEPS = 32, STEP_BYTES = 4, KEYS = 8 };
 
 typedef struct monitor_answer feeds(const uint32_t *, size_t, const uint8_t *, size_t, uint32_t *, size_t, const uint8_t *, size_t, uint8_t *, size_t);
 
@@ -58,8 +59,8 @@ static size_t depth(feeds *called)
 
 static void step(size_t script, size_t at, uint8_t op, uint8_t a, uint8_t b, uint8_t c)
 {
-    const uint8_t bytes[4] = {op, a, b, c};
-    memcpy(scripts + 128 * script + 4 * at, bytes, sizeof bytes);
+    const uint8_t bytes[STEP_BYTES] = {op, a, b, c};
+    memcpy(scripts + STEP_BYTES * (STEPS * script + at), bytes, sizeof bytes);
 }
 
 /* Every URL, connection and cookie is there and open to all, every cookie is present, every connection awaits a document. */
@@ -72,7 +73,7 @@ static void everything(void)
     for (uint32_t i = 0; i < MONITOR_STATE_WORDS; i++) {
         state[i] = i < 128 ? 0xffffffffu : i < 144 ? 0xffu : 0x01000000u | (i - 144);
     }
-    for (uint8_t at = 0; at < 32; at++) {
+    for (uint8_t at = 0; at < STEPS; at++) {
         step(SENDS, at, 5, at, at, 15);
         step(REGISTERS, at, 2, at % 4, 3, 3);
         step(WRITES, at, at % 2 == 0 ? 3 : 4, at % 4, at % 4, 0);
@@ -88,8 +89,8 @@ static void respond(uint8_t script)
     memset(record, 0xff, sizeof record);
     const uint8_t front[4] = {0x0f, 0, 0, 0xff};
     memcpy(record, front, sizeof front);
-    record[36] = script;
-    record_bytes = 37;
+    record_bytes = sizeof front + 4 * KEYS;
+    record[record_bytes++] = script;
 }
 
 static void measure(const char *name, uint32_t number, uint32_t bytes, uint32_t steps)
@@ -110,16 +111,16 @@ static void measure(const char *name, uint32_t number, uint32_t bytes, uint32_t 
 int main(void)
 {
     respond(SENDS);
-    measure("the largest output: 32 requests of 37 bytes", MONITOR_ACCEPTED, 1184, 32);
+    measure("the largest output: 32 requests of 37 bytes", MONITOR_ACCEPTED, STEPS * MONITOR_LONGEST_REQUEST, STEPS);
     respond(REGISTERS);
-    measure("the longest script: 32 additions", MONITOR_ACCEPTED, 0, 32);
+    measure("the longest script: 32 additions", MONITOR_ACCEPTED, 0, STEPS);
     respond(WRITES);
-    measure("32 reads and writes of cookies", MONITOR_ACCEPTED, 0, 32);
+    measure("32 reads and writes of cookies", MONITOR_ACCEPTED, 0, STEPS);
     everything();
     const uint8_t redirect[4] = {0x23, 1, 1, 1};
     memcpy(record, redirect, sizeof redirect);
     record_bytes = sizeof redirect;
-    measure("a redirect", MONITOR_ACCEPTED, 36, 0);
+    measure("a redirect", MONITOR_ACCEPTED, MONITOR_LONGEST_REQUEST - 1, 0); /* a document's: no handler */
     everything();
     record_bytes = 0;
     measure("refused after every check: malformed", MONITOR_MALFORMED, 0, 0);

@@ -1,6 +1,7 @@
 //! How the cost of a call grows: by the record's length, by open connections, by script steps, by requests.
 
 use cases::labels::OPEN_AT;
+use reference::layout::SCRIPT_BYTES;
 
 use crate::timing::{measure, Times};
 use crate::workload::{everything, with, Session, ADDITIONS, REQUESTS};
@@ -68,7 +69,7 @@ fn requests(count: usize) -> (usize, Session) {
 /// A response whose script runs so many steps; the last one ends it where it is not the last of the script.
 fn script_of(script: u8, count: usize) -> Session {
     let mut session = with(&everything(), &[0x0b, 0, 0, script]);
-    let code = &mut session.scripts[128 * script as usize..][..128];
+    let code = &mut session.scripts[SCRIPT_BYTES * script as usize..][..SCRIPT_BYTES];
     code[4 * count..].fill(0);
     session
 }

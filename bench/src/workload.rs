@@ -1,9 +1,10 @@
 //! What is measured: sessions, each a policy, a script table, a state to start from, and records.
 
-use cases::labels::{ALL, OPEN_AT, PRESENT_AT, SCRIPT_BYTES, STATE_WORDS};
+use cases::labels::{ALL, OPEN_AT, PRESENT_AT, SCRIPTS_BYTES, STATE_WORDS};
 use cases::policy::{document, policy_of, Style};
 use cases::record::{make_accepted, make_record};
 use cases::{state, Random, Setting};
+use reference::layout::SCRIPT_BYTES;
 
 #[derive(Clone)]
 pub struct Session {
@@ -107,7 +108,7 @@ pub fn small_post() -> Session {
         &[0x0b, 3, 3, 0],                   // again, though nothing is awaited
         &[0x03, 0],                         // a torn record
     ];
-    let mut scripts = vec![0; SCRIPT_BYTES];
+    let mut scripts = vec![0; SCRIPTS_BYTES];
     set_script(
         &mut scripts,
         1,
@@ -131,7 +132,7 @@ pub fn small_post() -> Session {
 }
 
 fn set_script(scripts: &mut [u8], script: usize, steps: &[[u8; 4]]) {
-    scripts[128 * script..][..4 * steps.len()].copy_from_slice(steps.as_flattened());
+    scripts[SCRIPT_BYTES * script..][..4 * steps.len()].copy_from_slice(steps.as_flattened());
 }
 
 type MakeRecord = fn(&Setting, &[u32], &mut Vec<u8>, &Random);
@@ -148,7 +149,7 @@ fn dense_session(random: &Random, make: MakeRecord) -> Session {
     let mut start = Vec::new();
     state::make_sound(&setting, &mut start, random);
     let mut now = start.clone();
-    let mut out = [0; cases::labels::OUT_BYTES];
+    let mut out = [0; cases::labels::OUTPUT_BYTES];
     let mut records = Vec::new();
     for _ in 0..DENSE_RECORDS {
         let mut record = Vec::new();
@@ -183,7 +184,7 @@ pub fn everything() -> Session {
     {
         row[0] = url as u32 % 32;
     }
-    let mut scripts = vec![0; SCRIPT_BYTES];
+    let mut scripts = vec![0; SCRIPTS_BYTES];
     let requests: Vec<[u8; 4]> = (0..32).map(|at| [5, at, at, 15]).collect();
     set_script(&mut scripts, REQUESTS as usize, &requests);
     set_script(&mut scripts, ADDITIONS as usize, &[[2, 0, 1, 2]; 32]);

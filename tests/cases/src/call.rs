@@ -1,7 +1,7 @@
 //! One call of the monitor: all that it is lent.
 
 use crate::damage;
-use crate::labels::{OUT_BYTES, POLICY_WORDS, SCRIPT_BYTES, STATE_WORDS};
+use crate::labels::{OUTPUT_BYTES, POLICY_WORDS, SCRIPTS_BYTES, STATE_WORDS};
 use crate::random::Random;
 use crate::record;
 use crate::setting::Setting;
@@ -54,8 +54,8 @@ impl Call {
 
     /// An output that is long enough, with anything in it. Mostly that is what the last one had: filling it takes longer than a call.
     fn make_out(&mut self, random: &Random) {
-        let longer = OUT_BYTES + random.below(400);
-        let length = random.pick(&[OUT_BYTES, OUT_BYTES, OUT_BYTES + 1, longer]);
+        let longer = OUTPUT_BYTES + random.below(400);
+        let length = random.pick(&[OUTPUT_BYTES, OUTPUT_BYTES, OUTPUT_BYTES + 1, longer]);
         let old = self.out.len();
         self.out.resize(length, 0);
         let kept = if random.one_in(16) {
@@ -76,7 +76,7 @@ impl Call {
     /// What has lost its length already is left as it is.
     fn damage_once(&mut self, setting: &Setting, random: &Random) {
         let policy = self.policy.len() == POLICY_WORDS;
-        let scripts = self.scripts.len() == SCRIPT_BYTES;
+        let scripts = self.scripts.len() == SCRIPTS_BYTES;
         let state = self.state.len() == STATE_WORDS;
         match random.below(10) {
             0 => damage::damage_out(&mut self.out, random),

@@ -2,7 +2,7 @@
 
 use crate::labels::{
     event_set, Pending, Url, CONNECTIONS, CONNECTIONS_AT, DOCUMENT, HOSTS, KEYS, NO_URL, OPEN_AT,
-    OUT_BYTES, PRESENT_AT, SCRIPT, SCRIPTS, STATE_WORDS, URLS,
+    OUTPUT_BYTES, PRESENT_AT, SCRIPT, SCRIPTS, STATE_WORDS, URLS,
 };
 use crate::random::Random;
 use crate::setting::Setting;
@@ -51,7 +51,13 @@ pub fn damage_scripts(scripts: &mut Vec<u8>, random: &Random) {
 
 /// Makes an output too short.
 pub fn damage_out(out: &mut Vec<u8>, random: &Random) {
-    out.truncate(random.pick(&[0, 1, OUT_BYTES - 1, OUT_BYTES - 1, random.below(OUT_BYTES)]));
+    out.truncate(random.pick(&[
+        0,
+        1,
+        OUTPUT_BYTES - 1,
+        OUTPUT_BYTES - 1,
+        random.below(OUTPUT_BYTES),
+    ]));
 }
 
 /// Damages a sound state; now and then it stays sound.

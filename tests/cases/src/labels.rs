@@ -1,17 +1,9 @@
 //! Where a policy and a state have what, and which labels allow what. The generator asks this to make calls that come far.
 
-pub const POLICY_WORDS: usize = 544;
-pub const SCRIPT_BYTES: usize = 2048;
-pub const STATE_WORDS: usize = 176;
-pub const OUT_BYTES: usize = 1184;
-
-pub const URLS: usize = 64;
-pub const HOSTS: usize = 16;
-pub const KEYS: usize = 8;
-pub const CONNECTIONS: usize = 32;
-pub const SCRIPTS: usize = 16;
-pub const STEPS: usize = 32;
-pub const STEP_BYTES: usize = 4;
+pub use reference::layout::{
+    CONNECTIONS, HOSTS, KEYS, OUTPUT_BYTES, POLICY_WORDS, SCRIPTS, SCRIPTS_BYTES, STATE_WORDS,
+    STEPS, STEP_BYTES, URLS,
+};
 
 pub const NO_URL: [u32; 3] = [255, 0, 0];
 pub const ALL: u32 = u32::MAX;

@@ -203,7 +203,7 @@ fn twist_bytes(record: &mut Vec<u8>, random: &Random) {
         6 => no_keys(record, random),
         7 => {
             record.clear();
-            let length = random.pick(&[random.below(48), random.below(256), random.below(2048)]);
+            let length = random.pick(&[random.below(48), random.below(256), random.below(8 * 256)]);
             lengthen(record, length, random);
             if let (Some(map), true) = (record.first_mut(), random.one_in(2)) {
                 *map = random.pick(&INPUT_MAPS);

@@ -1,6 +1,7 @@
 //! What the generator calls well formed and sound is so by the reference, and everything comes from the seed.
 
 use cases::{Call, Random, Setting};
+use reference::numbers::MALFORMED;
 use reference::Seen;
 
 use crate::case::play;
@@ -22,14 +23,14 @@ fn policies_are_well_formed_and_states_sound() {
         let mut call = Call {
             policy: setting.policy.clone(),
             scripts: setting.scripts.clone(),
-            out: vec![0; cases::labels::OUT_BYTES],
+            out: vec![0; cases::labels::OUTPUT_BYTES],
             ..Call::default()
         };
         for _ in 0..20 {
             cases::state::make_sound(&setting, &mut call.state, &random);
             assert_eq!(
                 number_of(&call, &random),
-                5,
+                MALFORMED,
                 "the empty record, case {case}"
             );
         }

@@ -7,6 +7,7 @@
 //! every part.
 
 use crate::layout::*;
+use crate::numbers::*;
 use crate::Answer;
 
 type Policy = [u32; POLICY_WORDS];
@@ -45,18 +46,18 @@ fn judge(
     record: &[u8],
     out: &mut [u8],
 ) -> Result<Answer, u32> {
-    let out: &mut Output = out.first_chunk_mut().ok_or(1u32)?;
-    let policy: &Policy = policy.try_into().map_err(|_| 2u32)?;
-    let some_empty = urls_well_formed(policy).ok_or(2u32)?;
+    let out: &mut Output = out.first_chunk_mut().ok_or(OUTPUT_SHORT)?;
+    let policy: &Policy = policy.try_into().map_err(|_| POLICY_BAD)?;
+    let some_empty = urls_well_formed(policy).ok_or(POLICY_BAD)?;
     if !connections_well_formed(policy) {
-        return Err(2);
+        return Err(POLICY_BAD);
     }
-    let scripts: &[u8; SCRIPTS_BYTES] = scripts.try_into().map_err(|_| 3u32)?;
-    let state: &mut State = state.try_into().map_err(|_| 4u32)?;
+    let scripts: &[u8; SCRIPTS_BYTES] = scripts.try_into().map_err(|_| SCRIPTS_BAD)?;
+    let state: &mut State = state.try_into().map_err(|_| STATE_UNSOUND)?;
     if !cookies_sound(state) || !pending_sound(policy, some_empty, state) {
-        return Err(4);
+        return Err(STATE_UNSOUND);
     }
-    let record = read_record(record).ok_or(5u32)?;
+    let record = read_record(record).ok_or(MALFORMED)?;
     check_record(policy, state, &record)?;
     Ok(carry_out(policy, scripts, state, &record, out))
 }
@@ -324,20 +325,20 @@ fn read_record(bytes: &[u8]) -> Option<Record<'_>> {
 fn check_record(policy: &Policy, state: &mut State, record: &Record) -> Result<(), u32> {
     let url = url_row(policy, record.url);
     if record.url > 63 || record.connection > 31 || url[0] == NO_ADDRESS {
-        return Err(6);
+        return Err(NAME_UNKNOWN);
     }
     let row = connection_row(policy, record.connection);
     let word = *pending(state, record.connection);
     let same_url = word % 256 == record.url;
     match record.kind {
         Kind::Load => check_fit(outside(row[0], url[1]), holds(row[2], url[0])),
-        Kind::Document(script) if script > 15 => Err(6),
+        Kind::Document(script) if script > 15 => Err(NAME_UNKNOWN),
         Kind::Document(_) => check_match(same_url && word >> 24 == KIND_DOCUMENT),
         Kind::Script(_) => check_match(same_url && word >> 24 == KIND_SCRIPT),
         Kind::Redirect(target) => {
             let to = url_row(policy, target);
             if target > 63 || to[0] == NO_ADDRESS {
-                return Err(6);
+                return Err(NAME_UNKNOWN);
             }
             check_match(same_url && word != 0)?;
             let event = u32::from(!holds(row[0], to[0] % 16));
@@ -352,7 +353,7 @@ fn check_record(policy: &Policy, state: &mut State, record: &Record) -> Result<(
 fn check_match(matches: bool) -> Result<(), u32> {
     match matches {
         true => Ok(()),
-        false => Err(7),
+        false => Err(NOT_AWAITED),
     }
 }
 
@@ -361,8 +362,8 @@ fn check_match(matches: bool) -> Result<(), u32> {
 fn check_fit(readers_outside: u32, writers_fit: bool) -> Result<(), u32> {
     match (readers_outside, writers_fit) {
         (0, true) => Ok(()),
-        (0, false) => Err(9),
-        _ => Err(8),
+        (0, false) => Err(WRITERS_FORBID),
+        _ => Err(READERS_FORBID),
     }
 }
 
@@ -389,7 +390,7 @@ fn carry_out(
     if next != 0 {
         let bytes = write_request(policy, state, record.connection, next, out, 0);
         return Answer {
-            number: 0,
+            number: ACCEPTED,
             bytes: bytes as u32,
             steps: 0,
         };
@@ -556,7 +557,7 @@ fn run(
         }
     }
     Answer {
-        number: 0,
+        number: ACCEPTED,
         bytes: interpreter.bytes as u32,
         steps: count,
     }

@@ -37,8 +37,14 @@ pub const STATE_CONNECTIONS: usize = STATE_PRESENT + HOSTS;
 /// Words of a state.
 pub const STATE_WORDS: usize = STATE_CONNECTIONS + CONNECTIONS;
 
-/// Bytes of the longest request.
-pub const REQUEST_BYTES: usize = 37;
+/// Bytes of map, URL and connection.
+const FRONT_BYTES: usize = 3;
+/// Bytes of a key map and of every cookie's value.
+const COOKIES_BYTES: usize = 1 + 4 * KEYS;
+/// Bytes of the longest input, a script response.
+pub const RECORD_BYTES: usize = FRONT_BYTES + COOKIES_BYTES + 4;
+/// Bytes of the longest request, a script's.
+pub const REQUEST_BYTES: usize = FRONT_BYTES + COOKIES_BYTES + 1;
 /// Bytes that every output buffer must have.
 pub const OUTPUT_BYTES: usize = STEPS * REQUEST_BYTES;
 

@@ -9,8 +9,9 @@
 mod endpoint;
 mod fast;
 mod interpreter;
-mod layout;
+pub mod layout;
 mod monitor;
+pub mod numbers;
 mod policy;
 mod record;
 mod request;

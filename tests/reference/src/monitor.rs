@@ -2,6 +2,7 @@
 
 use crate::interpreter::Interpreter;
 use crate::layout::*;
+use crate::numbers::*;
 use crate::policy::{ConnectionTag, Policy, Url};
 use crate::record::{self, Kind, Record};
 use crate::request::write_request;
@@ -43,7 +44,7 @@ pub fn feed_noting(
             accepted.state.write(state);
             out[..accepted.output.len()].copy_from_slice(&accepted.output);
             Answer {
-                number: 0,
+                number: ACCEPTED,
                 bytes: accepted.output.len() as u32,
                 steps,
             }
@@ -70,15 +71,15 @@ fn judge(
     record: &[u8],
     out: &[u8],
 ) -> Result<Accepted, Refusal> {
-    check_output(out).map_err(refuse(1))?;
-    let policy = Policy::read(policy).map_err(refuse(2))?;
-    check_scripts(scripts).map_err(refuse(3))?;
-    let state = State::read(state, &policy).map_err(refuse(4))?;
-    let record = record::read(record).map_err(refuse(5))?;
-    record::check_numbers(&record, &policy).map_err(refuse(6))?;
-    check_match(&record, &state).map_err(refuse(7))?;
-    check_readers(&record, &policy).map_err(refuse(8))?;
-    check_writers(&record, &policy).map_err(refuse(9))?;
+    check_output(out).map_err(refuse(OUTPUT_SHORT))?;
+    let policy = Policy::read(policy).map_err(refuse(POLICY_BAD))?;
+    check_scripts(scripts).map_err(refuse(SCRIPTS_BAD))?;
+    let state = State::read(state, &policy).map_err(refuse(STATE_UNSOUND))?;
+    let record = record::read(record).map_err(refuse(MALFORMED))?;
+    record::check_numbers(&record, &policy).map_err(refuse(NAME_UNKNOWN))?;
+    check_match(&record, &state).map_err(refuse(NOT_AWAITED))?;
+    check_readers(&record, &policy).map_err(refuse(READERS_FORBID))?;
+    check_writers(&record, &policy).map_err(refuse(WRITERS_FORBID))?;
     Ok(Accepted {
         policy,
         state,

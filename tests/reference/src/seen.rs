@@ -93,7 +93,7 @@ events! {
     RequestCookies: "a request goes out with cookies",
     NotCarriedAbsent: "a cookie is not carried because it is absent",
     NotCarriedReaders: "a cookie is not carried because its readers do not hold the message endpoint",
-    FullOutput: "the output has the full 1184 bytes",
+    FullOutput: "a script fills the output to its last byte",
 
     StepSet: "a script sets a register",
     StepAdd: "a script adds without wrapping",

@@ -4,6 +4,10 @@ mod common;
 
 use cases::policy::document;
 use common::{Feed, Session, FEEDS};
+use reference::layout::{
+    OUTPUT_BYTES, POLICY_WORDS, SCRIPTS_BYTES, STATE_CONNECTIONS, STATE_PRESENT, STATE_WORDS,
+    WALK_LONGEST, WALK_SHORTEST,
+};
 use reference::Answer;
 
 const LOAD_0_ON_0: [u8; 3] = [3, 0, 0];
@@ -18,14 +22,14 @@ fn for_each_feed(case: fn(Session)) {
 
 fn after_a(session: &mut Session) {
     assert_eq!(session.accept(&LOAD_0_ON_0), (vec![3, 0, 0], 0));
-    assert_eq!(session.state[144], 0x0100_0000);
+    assert_eq!(session.state[STATE_CONNECTIONS], 0x0100_0000);
 }
 
 fn after_e(session: &mut Session) {
     after_a(session);
     assert_eq!(session.accept(&RESPONSE_WITH_7), (vec![], 1));
-    assert_eq!((session.state[0], session.state[128]), (7, 1));
-    assert_eq!(session.state[144], 0);
+    assert_eq!((session.state[0], session.state[STATE_PRESENT]), (7, 1));
+    assert_eq!(session.state[STATE_CONNECTIONS], 0);
 }
 
 #[test]
@@ -79,7 +83,7 @@ fn h_readers_refuse_a_redirect() {
     for_each_feed(|mut session| {
         after_a(&mut session);
         assert_eq!(session.refuse(&[0x27, 0, 0, 1, 0, 0, 0, 9, 2]), 8);
-        assert_eq!((session.state[0], session.state[128]), (0, 0));
+        assert_eq!((session.state[0], session.state[STATE_PRESENT]), (0, 0));
     });
 }
 
@@ -119,9 +123,15 @@ fn a_script_is_stopped_or_goes_on() {
 }
 
 fn feed_into(feed: Feed, length: usize) -> Answer {
-    let mut state = vec![0; 176];
+    let mut state = vec![0; STATE_WORDS];
     let mut out = vec![0xA5; length];
-    let answer = feed(&document(), &[0; 2048], &mut state, &LOAD_0_ON_0, &mut out);
+    let answer = feed(
+        &document(),
+        &[0; SCRIPTS_BYTES],
+        &mut state,
+        &LOAD_0_ON_0,
+        &mut out,
+    );
     if answer.number != 0 {
         assert!(state.iter().all(|&word| word == 0));
         assert!(out.iter().all(|&byte| byte == 0xA5));
@@ -138,14 +148,14 @@ fn a_short_output_buffer() {
             steps: 0,
         };
         assert_eq!(feed_into(feed, 0), refused);
-        assert_eq!(feed_into(feed, 1183), refused);
-        assert_eq!(feed_into(feed, 1184).number, 0);
+        assert_eq!(feed_into(feed, OUTPUT_BYTES - 1), refused);
+        assert_eq!(feed_into(feed, OUTPUT_BYTES).number, 0);
     }
 }
 
 fn walk_input(records: &[u8]) -> Vec<u8> {
     let words = document().into_iter().flat_map(u32::to_be_bytes);
-    let mut input: Vec<u8> = words.chain([0; 2048]).collect();
+    let mut input: Vec<u8> = words.chain([0; SCRIPTS_BYTES]).collect();
     input.extend(records);
     input
 }
@@ -186,17 +196,18 @@ fn walk_knows_short_and_long() {
     assert_eq!(reference::walk(&input), "end 0 0\n");
     assert_eq!(reference::walk(&input[1..]), "short\n");
     assert_eq!(reference::walk(&[]), "short\n");
-    assert_eq!(reference::walk(&[0; 65_537]), "long\n");
-    let zeros = reference::walk(&[0; 65_536]);
+    assert_eq!(reference::walk(&[0; WALK_LONGEST + 1]), "long\n");
+    let zeros = reference::walk(&[0; WALK_LONGEST]);
     assert!(zeros.starts_with("1 2 0 0\n2 2 0 0\n"));
-    assert!(zeros.ends_with("\nend 0 61312\n"));
+    let refused = WALK_LONGEST - WALK_SHORTEST;
+    assert!(zeros.ends_with(&format!("\nend 0 {refused}\n")));
 }
 
 /// A script of sends and its requests, read back by walk.
 #[test]
 fn walk_prints_every_request() {
     let mut input = walk_input(&[3, 3, 1, 1, 4, 0x0B, 1, 1, 0]);
-    let scripts = 4 * 544;
+    let scripts = 4 * POLICY_WORDS;
     input[scripts..scripts + 8].copy_from_slice(&[5, 1, 1, 3, 5, 1, 1, 16]);
     let lines = "1 0 3 0\n> 1 1 00\n2 0 4 2\n> 1 1 00\nend 2 0\n";
     assert_eq!(reference::walk(&input), lines);

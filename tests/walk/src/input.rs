@@ -1,14 +1,12 @@
 //! Random inputs for walk, by kind.
 
 use cases::damage::damage_policy;
-use cases::labels::{OUT_BYTES, POLICY_WORDS, SCRIPT_BYTES};
 use cases::record::{make_accepted, make_record};
 use cases::state::make_empty;
 use cases::{Random, Setting};
-
-/// Where the records start, and the most that walk reads.
-const RECORDS_AT: usize = 4 * POLICY_WORDS + SCRIPT_BYTES;
-const LONGEST: usize = 65_536;
+use reference::layout::{
+    OUTPUT_BYTES, POLICY_WORDS, RECORD_BYTES, WALK_LONGEST as LONGEST, WALK_SHORTEST as RECORDS_AT,
+};
 
 #[derive(Clone, Copy, Debug, PartialEq, Eq)]
 pub enum Kind {
@@ -135,7 +133,7 @@ impl Kind {
 struct Builder {
     setting: Setting,
     state: Vec<u32>,
-    out: [u8; OUT_BYTES],
+    out: [u8; OUTPUT_BYTES],
     bytes: Vec<u8>,
 }
 
@@ -156,7 +154,7 @@ impl Builder {
         Builder {
             setting,
             state,
-            out: [0; OUT_BYTES],
+            out: [0; OUTPUT_BYTES],
             bytes,
         }
     }
@@ -224,7 +222,7 @@ fn cut(random: &Random) -> Vec<Vec<u8>> {
     if random.one_in(2) {
         input.push_accepted(random);
     } else {
-        let length = random.pick(&[1, 2, 40, 41, 255]);
+        let length = random.pick(&[1, 2, RECORD_BYTES, RECORD_BYTES + 1, 255]);
         input.push(&random_bytes(length, random));
     }
     let whole = input.bytes;

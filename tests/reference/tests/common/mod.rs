@@ -1,6 +1,7 @@
 //! A session to feed, under document 01's small policy P.
 
 use cases::policy::document;
+use reference::layout::{OUTPUT_BYTES, SCRIPTS_BYTES, STATE_WORDS};
 use reference::Answer;
 
 /// Any of the feeding functions.
@@ -26,15 +27,15 @@ impl Session {
         Session {
             feed,
             policy: document(),
-            scripts: vec![0; 2048],
-            state: vec![0; 176],
+            scripts: vec![0; SCRIPTS_BYTES],
+            state: vec![0; STATE_WORDS],
         }
     }
 
     /// Feeds a record; number, output and steps. Checks what holds of every
     /// answer: a refusal changes nothing, bytes past the output stay.
     pub fn feed(&mut self, record: &[u8]) -> (u32, Vec<u8>, u32) {
-        let mut out = vec![0xA5; 1200];
+        let mut out = vec![0xA5; OUTPUT_BYTES + 16];
         let before = self.state.clone();
         let answer = (self.feed)(
             &self.policy,
