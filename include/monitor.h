@@ -143,7 +143,7 @@ struct monitor_answer {
  * of the output only the first `bytes` bytes. A refusal changes nothing.
  *
  * Any contents and any lengths are allowed: whatever does not fit is refused. What is asked of the caller is memory: each pointer is
- * not null and aligned for its type, also where the length is 0; each buffer has the length that is given (script table, record and output in
+ * aligned for its type, and null only where its length is 0; each buffer has the length that is given (script table, record and output in
  * bytes, policy and state in words); state and output overlap no other buffer; and nobody else writes a buffer, or reads state or
  * output, during the call. Calls on different states may run at the same time.
  *

@@ -1,5 +1,5 @@
 /* Links libmonitor.a: document 01's small post case by case, a script that is stopped on one connection and goes on on another, every wrong
- * length of every buffer, and random records. Every call is checked for what it must leave alone. */
+ * length of every buffer, null pointers, and random records. Every call is checked for what it must leave alone. */
 #include <inttypes.h>
 #include <stdbool.h>
 #include <stdio.h>
@@ -84,7 +84,8 @@ static void check_answer(struct monitor_answer answer, struct lengths n)
     check(memcmp(lent.out + answer.bytes, before.out + answer.bytes, sizeof lent.out - answer.bytes) == 0, "a byte past the output changed");
 }
 
-static struct monitor_answer feed_with(struct lengths n, const uint8_t *record, size_t size)
+/* Puts a record and a fresh output where they are lent. */
+static void prepare(const uint8_t *record, size_t size)
 {
     check(size <= LONGEST, "the test's own record is too long");
     memset(lent.record, 0xc5, sizeof lent.record);
@@ -92,6 +93,11 @@ static struct monitor_answer feed_with(struct lengths n, const uint8_t *record, 
     memset(lent.out, 0xa7, sizeof lent.out);
     memcpy(&before, &lent, sizeof lent);
     calls++;
+}
+
+static struct monitor_answer feed_with(struct lengths n, const uint8_t *record, size_t size)
+{
+    prepare(record, size);
     struct monitor_answer answer = monitor_feed(lent.policy, n.policy, lent.scripts, n.scripts, lent.state, n.state, lent.record, size, lent.out, n.out);
     check_answer(answer, n);
     return answer;
@@ -256,6 +262,38 @@ static void wrong_lengths(void)
     }
 }
 
+/* ---- null pointers, each with length 0: every set of the five buffers */
+
+enum { OUT = 1, POLICY = 2, SCRIPTS = 4, STATE = 8, RECORD = 16, EVERY = 31 };
+
+static uint32_t number_without(unsigned null)
+{
+    return null & OUT       ? MONITOR_OUTPUT_SHORT
+           : null & POLICY  ? MONITOR_POLICY_BAD
+           : null & SCRIPTS ? MONITOR_SCRIPTS_BAD
+           : null & STATE   ? MONITOR_STATE_UNSOUND
+           : null & RECORD  ? MONITOR_MALFORMED
+                            : MONITOR_ACCEPTED;
+}
+
+static void null_pointers(void)
+{
+    static const uint8_t load[] = {0x03, 0, 0};
+    for (unsigned null = 0; null <= EVERY; null++) {
+        small_post();
+        doing = "null pointers";
+        prepare(load, sizeof load);
+        struct lengths n = {null & POLICY ? 0 : RIGHT.policy, null & SCRIPTS ? 0 : RIGHT.scripts, null & STATE ? 0 : RIGHT.state,
+                            null & OUT ? 0 : RIGHT.out};
+        struct monitor_answer answer =
+            monitor_feed(null & POLICY ? NULL : lent.policy, n.policy, null & SCRIPTS ? NULL : lent.scripts, n.scripts,
+                         null & STATE ? NULL : lent.state, n.state, null & RECORD ? NULL : lent.record, null & RECORD ? 0 : sizeof load,
+                         null & OUT ? NULL : lent.out, n.out);
+        check_answer(answer, n);
+        check(answer.number == number_without(null), "another number");
+    }
+}
+
 /* ---- random records */
 
 /* xorshift32: the same records in every run */
@@ -308,7 +346,8 @@ int main(void)
     malformed();
     scripts();
     wrong_lengths();
+    null_pointers();
     random_records();
-    printf("monitor: cases a to j, the script in two connections, every wrong length agree, and random records touch nothing else: %lu calls\n", calls);
+    printf("monitor: cases a to j, the script in two connections, every wrong length, null pointers agree, and random records touch nothing else: %lu calls\n", calls);
     return 0;
 }
