@@ -155,7 +155,10 @@ impl Interpreter<'_> {
             origin: self.page,
             handler,
         };
-        write_request(self.policy, self.state, b, self.output, self.seen);
+        let carried = write_request(self.policy, self.state, b, self.output, self.seen);
+        if carried.iter().any(|&(key, _)| !self.reads(url.host(), key)) {
+            self.seen.note(Event::CarriedUnreadable);
+        }
         if self.output.len() == OUTPUT_BYTES {
             self.seen.note(Event::FullOutput);
         }
@@ -172,6 +175,13 @@ impl Interpreter<'_> {
             self.seen.note(Event::StepSkipsNot);
             Ok(0)
         }
+    }
+
+    /// Whether the script may read a cookie.
+    fn reads(&self, host: usize, key: usize) -> bool {
+        let cookie = self.policy.cookie(host, key);
+        self.own().script_readers.within(cookie.readers)
+            && cookie.writers.within(self.own().writers)
     }
 
     /// The tag of the connection that the response came on.

@@ -1,18 +1,19 @@
 //! Requests that go out.
 
 use crate::layout::*;
-use crate::policy::Policy;
+use crate::policy::{CookieTag, Policy, Url};
 use crate::seen::{Event, Seen};
 use crate::state::{Pending, State};
 
-/// Appends the request for what is pending on the connection.
+/// Appends the request for what is pending on the connection. Gives the
+/// cookies that it carries.
 pub fn write_request(
     policy: &Policy,
     state: &State,
     connection: usize,
     output: &mut Vec<u8>,
     seen: &mut Seen,
-) {
+) -> Vec<(usize, u32)> {
     let (map, number, handler) = match state.pending[connection] {
         Pending::Document { url } => (MAP_DOCUMENT_REQUEST, url, None),
         Pending::Script { url, handler, .. } => (MAP_SCRIPT_REQUEST, url, Some(handler)),
@@ -31,6 +32,7 @@ pub fn write_request(
         write_cookies(&cookies, output);
     }
     output.extend(handler.map(|handler| handler as u8));
+    cookies
 }
 
 /// A request carries every present cookie of the URL's host whose readers
@@ -45,10 +47,23 @@ fn carried(policy: &Policy, state: &State, number: usize, seen: &mut Seen) -> Ve
             Some(_) if !tag.readers.holds(url.message_endpoint()) => {
                 seen.note(Event::NotCarriedReaders)
             }
-            Some(value) => cookies.push((key, value)),
+            Some(value) => {
+                note_carried(url, tag, seen);
+                cookies.push((key, value));
+            }
         }
     }
     cookies
+}
+
+/// What might be thought to keep a cookie back.
+fn note_carried(url: &Url, tag: &CookieTag, seen: &mut Seen) {
+    if !tag.readers.within(url.readers) {
+        seen.note(Event::CarriedOutside);
+    }
+    if !url.readers.holds(url.message_endpoint()) {
+        seen.note(Event::CarriedMessage);
+    }
 }
 
 /// A key map byte, then the values, most significant byte first.

@@ -93,6 +93,9 @@ events! {
     RequestCookies: "a request goes out with cookies",
     NotCarriedAbsent: "a cookie is not carried because it is absent",
     NotCarriedReaders: "a cookie is not carried because its readers do not hold the message endpoint",
+    CarriedOutside: "a cookie is carried though its readers are not within the URL's readers",
+    CarriedMessage: "a cookie is carried to a URL whose message endpoint is not among its own readers",
+    CarriedUnreadable: "a script's request carries a cookie that its labels do not let it read",
     FullOutput: "a script fills the output to its last byte",
 
     StepSet: "a script sets a register",
