@@ -1,19 +1,19 @@
-// What each kind of record asks and does. The numbers from 6 on are asked here, in their order.
+// What a load and what an arrival asks and does. The numbers from 6 on are asked here, in their order.
 ghost use mathlib.Core.Path.{_≡_};
 ghost use mathlib.Core.Bool.{true, not, _&&_};
 ghost use mathlib.Core.List.{List};
 ghost use Prim.Native.Nat.{ℕ, _<_};
 ghost use lib.Dec.{eqb};
 ghost use lib.ListN.{length};
-ghost use Rattle.machine.specs.Policy.{connections, isUrl, isConnection};
+ghost use Rattle.machine.specs.Policy.{connections, isUrl, isConnection, redirectReaders, redirectWriters};
 ghost use Rattle.machine.specs.Session.{free, scriptCount, kindOf, originOf, handlerOf, urlOf, setConnection, send};
 ghost use Rattle.machine.specs.Scripts.{tableBytes, runScript};
-ghost use Rattle.machine.specs.Machine.{Load, DocumentResponse, ScriptResponse, Redirect};
+ghost use Rattle.machine.specs.Machine.{Load, carriesNames, ofKind, ofTarget, receive};
 ghost use Rattle.policy.specs.Given.{WellFormed, Url};
 ghost use Rattle.session.specs.Given.{Session};
 ghost use Rattle.monitor.specs.Answers.{fed, done, reaction};
-ghost use Rattle.monitor.specs.Events.{arrival, stored};
-ghost use Rattle.monitor.specs.Given.{Lent, Arriving};
+ghost use Rattle.monitor.specs.Events.{told, arrival, stored};
+ghost use Rattle.monitor.specs.Given.{Lent, Arriving, Names, Holds};
 use super::answers::ACCEPTED;
 use super::answers::Done;
 use super::answers::NAME_UNKNOWN;
@@ -39,7 +39,14 @@ use session::requests::send;
 use session::words::connection_word;
 use session::words::set_connection;
 
-// What a response or redirect brings: cookies for the host of a URL, on a connection.
+// What can arrive on a connection: a document, with the script that it runs; a value for a script's request; a redirect to a target.
+pub enum Arrived {
+    DocumentResponse(usize),
+    ScriptResponse(u32),
+    Redirect(usize),
+}
+
+// What comes with it: cookies for the host of a URL, on a connection.
 pub struct Delivery {
     pub url: usize,
     pub connection: usize,
@@ -131,68 +138,6 @@ fn respond(
     }
 }
 
-// The page of a document's script is the URL that the connection holds.
-pub fn document_response(
-    policy: &[u32],
-    scripts: &[u8],
-    state: &mut [u32],
-    from: Delivery,
-    script: usize,
-    out: &mut [u8],
-) -> Done
-    requires { ⌜ Lent (now policy) (now scripts) (now state) ⌝ }
-    ensures { λ r. ⌜ fed r (now (state .exit)) (now (out .exit))
-        ≡ reaction (now (policy .entry)) (now (scripts .entry)) (now (state .entry)) (arrival from (DocumentResponse script)) (now (out .entry)) ⌝ }
-{
-    let url = from.url;
-    if !is_named(policy, url, from.connection) {
-        return refused(NAME_UNKNOWN);
-    }
-    if SCRIPTS <= script {
-        return refused(NAME_UNKNOWN);
-    }
-    let word = connection_word(state, from.connection);
-    if !(holds_url(word, url) & (Pending::of(word).kind == DOCUMENT)) {
-        return refused(NOT_AWAITED);
-    }
-    respond(policy, scripts, state, from, url, script, 0, out)
-}
-
-// The response to a script's request is handled for the page that sent it.
-pub fn script_response(
-    policy: &[u32],
-    scripts: &[u8],
-    state: &mut [u32],
-    from: Delivery,
-    value: u32,
-    out: &mut [u8],
-) -> Done
-    requires { ⌜ Lent (now policy) (now scripts) (now state) ⌝ }
-    ensures { λ r. ⌜ fed r (now (state .exit)) (now (out .exit))
-        ≡ reaction (now (policy .entry)) (now (scripts .entry)) (now (state .entry)) (arrival from (ScriptResponse value)) (now (out .entry)) ⌝ }
-{
-    let url = from.url;
-    if !is_named(policy, url, from.connection) {
-        return refused(NAME_UNKNOWN);
-    }
-    let word = connection_word(state, from.connection);
-    let pending = Pending::of(word);
-    if !(holds_url(word, url) & (pending.kind == SCRIPT)) {
-        return refused(NOT_AWAITED);
-    }
-    let page = pending.origin;
-    respond(
-        policy,
-        scripts,
-        state,
-        from,
-        page,
-        pending.handler,
-        value,
-        out,
-    )
-}
-
 // A redirect that is accepted: its cookies are stored for the old URL's host, and the connection moves to the target.
 fn follow(
     policy: &[u32],
@@ -222,34 +167,123 @@ fn follow(
     }
 }
 
-// A redirect's cookies are stored only once its target is judged.
-pub fn redirect(
+// Whether a number that something carries names a script, or a URL.
+fn carries_names(policy: &[u32], what: Arrived) -> bool
+    requires { ⌜ WellFormed (now policy) ⌝ }
+    ensures { λ r. ⌜ (r ≡ carriesNames (now (policy .entry)) (told what))
+        × (r ≡ true → Names (now (policy .entry)) what) ⌝ }
+{
+    match what {
+        Arrived::DocumentResponse(script) => script < SCRIPTS,
+        Arrived::ScriptResponse(_) => true,
+        Arrived::Redirect(target) => is_url(policy, target),
+    }
+}
+
+// Whether a connection of a kind waits for it.
+fn of_kind(kind: u32, what: Arrived) -> bool
+    ensures { λ r. ⌜ r ≡ ofKind kind (told what) ⌝ }
+{
+    match what {
+        Arrived::DocumentResponse(_) => kind == DOCUMENT,
+        Arrived::ScriptResponse(_) => kind == SCRIPT,
+        Arrived::Redirect(_) => true,
+    }
+}
+
+// What 8 asks of a redirect's target, and what 9 asks; nothing of a response.
+fn readers_allow(policy: &[u32], connection: usize, what: Arrived) -> bool
+    requires { ⌜ WellFormed (now policy) × (connection < connections) × Names (now policy) what ⌝ }
+    ensures { λ r. ⌜ r ≡ ofTarget (redirectReaders (now (policy .entry)) connection) (told what) ⌝ }
+{
+    match what {
+        Arrived::DocumentResponse(_) => true,
+        Arrived::ScriptResponse(_) => true,
+        Arrived::Redirect(target) => redirect_readers(policy, connection, target),
+    }
+}
+
+fn writers_allow(policy: &[u32], connection: usize, what: Arrived) -> bool
+    requires { ⌜ WellFormed (now policy) × (connection < connections) × Names (now policy) what ⌝ }
+    ensures { λ r. ⌜ r ≡ ofTarget (redirectWriters (now (policy .entry)) connection) (told what) ⌝ }
+{
+    match what {
+        Arrived::DocumentResponse(_) => true,
+        Arrived::ScriptResponse(_) => true,
+        Arrived::Redirect(target) => redirect_writers(policy, connection, target),
+    }
+}
+
+// What is accepted on the connection of a word. The page of a document's script is the URL that the connection holds; the response to a
+// script's request is handled for the page that sent it.
+fn receive(
     policy: &[u32],
+    scripts: &[u8],
     state: &mut [u32],
     from: Delivery,
-    target: usize,
+    word: u32,
+    what: Arrived,
     out: &mut [u8],
 ) -> Done
-    requires { ⌜ Session (now policy) (now state) ⌝ }
-    ensures { λ r. ⌜ ((scripts : List ℕ) → fed r (now (state .exit)) (now (out .exit))
-        ≡ reaction (now (policy .entry)) scripts (now (state .entry)) (arrival from (Redirect target)) (now (out .entry))) ⌝ }
+    requires { ⌜ Arriving (now policy) (now state) from × (length (now scripts) ≡ tableBytes)
+        × Names (now policy) what × Holds (now policy) word what ⌝ }
+    ensures { λ r. ⌜ fed r (now (state .exit)) (now (out .exit))
+        ≡ done
+        (receive (now (policy .entry)) (now (scripts .entry)) (from .connection) word (told what)
+        (stored (now (policy .entry)) from (now (state .entry))))
+        (now (out .entry)) ⌝ }
+{
+    let pending = Pending::of(word);
+    match what {
+        Arrived::DocumentResponse(script) => {
+            respond(policy, scripts, state, from, pending.url, script, 0, out)
+        }
+        Arrived::ScriptResponse(value) => {
+            let page = pending.origin;
+            respond(
+                policy,
+                scripts,
+                state,
+                from,
+                page,
+                pending.handler,
+                value,
+                out,
+            )
+        }
+        Arrived::Redirect(target) => follow(policy, state, from, word, target, out),
+    }
+}
+
+// Cookies are stored only once all is judged.
+pub fn arrive(
+    policy: &[u32],
+    scripts: &[u8],
+    state: &mut [u32],
+    from: Delivery,
+    what: Arrived,
+    out: &mut [u8],
+) -> Done
+    requires { ⌜ Lent (now policy) (now scripts) (now state) ⌝ }
+    ensures { λ r. ⌜ fed r (now (state .exit)) (now (out .exit))
+        ≡ reaction (now (policy .entry)) (now (scripts .entry)) (now (state .entry)) (arrival from (told what)) (now (out .entry)) ⌝ }
 {
     let connection = from.connection;
     if !is_named(policy, from.url, connection) {
         return refused(NAME_UNKNOWN);
     }
-    if !is_url(policy, target) {
+    if !carries_names(policy, what) {
         return refused(NAME_UNKNOWN);
     }
     let word = connection_word(state, connection);
-    if !holds_url(word, from.url) {
+    if !(holds_url(word, from.url) & of_kind(Pending::of(word).kind, what)) {
         return refused(NOT_AWAITED);
     }
-    if !redirect_readers(policy, connection, target) {
+    if !readers_allow(policy, connection, what) {
         return refused(READERS_FORBID);
     }
-    if !redirect_writers(policy, connection, target) {
+    if !writers_allow(policy, connection, what) {
         return refused(WRITERS_FORBID);
     }
-    follow(policy, state, from, word, target, out)
+    receive(policy, scripts, state, from, word, what, out)
 }

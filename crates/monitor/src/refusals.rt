@@ -1,8 +1,8 @@
 // The refusals 1 to 5, in their order, and then what the record's kind asks and does.
 ghost use mathlib.Core.Path.{_≡_};
-ghost use Rattle.machine.specs.Machine.{eventOf, feed};
+ghost use Rattle.machine.specs.Machine.{plainMap, arrivedOf, eventOf, feed};
 ghost use Rattle.monitor.specs.Answers.{fed, reaction};
-ghost use Rattle.monitor.specs.Events.{eventKind};
+ghost use Rattle.monitor.specs.Events.{told};
 ghost use Rattle.monitor.specs.Given.{Lent};
 use super::answers::ACCEPTED;
 use super::answers::Done;
@@ -11,11 +11,10 @@ use super::answers::POLICY_BAD;
 use super::answers::SCRIPTS_BAD;
 use super::answers::STATE_UNSOUND;
 use super::answers::refused;
+use super::events::Arrived;
 use super::events::Delivery;
-use super::events::document_response;
+use super::events::arrive;
 use super::events::load;
-use super::events::redirect;
-use super::events::script_response;
 use policy::check::well_formed;
 use records::Direction;
 use records::LONGEST_REQUEST;
@@ -31,29 +30,25 @@ use session::soundness::sound;
 // Room for as many requests as a script can send, each as long as can be.
 pub const OUTPUT_ROOM: usize = STEP_LIMIT as usize * LONGEST_REQUEST;
 
-// What kind of event a record tells of.
-pub enum EventKind {
-    Load,
-    DocumentResponse,
-    ScriptResponse,
-    Redirect,
+// The map byte without its bit for cookies.
+fn plain_map(map: u8) -> u8
+    ensures { λ r. ⌜ r ≡ plainMap map ⌝ }
+{
+    map - WITH_COOKIES * (map / WITH_COOKIES % 2)
 }
 
-// By the map byte, without its bit for cookies.
-fn kind_of(map: u8) -> EventKind
-    ensures { λ r. ⌜ r ≡ eventKind map ⌝ }
+// What a record that is no load tells of.
+fn arrived_of(fields: Record) -> Arrived
+    ensures { λ r. ⌜ told r ≡ arrivedOf fields ⌝ }
 {
-    let plain = map - WITH_COOKIES * (map / WITH_COOKIES % 2);
-    if plain == LOAD {
-        return EventKind::Load;
-    }
+    let plain = plain_map(fields.map);
     if plain == DOCUMENT_RESPONSE {
-        return EventKind::DocumentResponse;
+        return Arrived::DocumentResponse(fields.script as usize);
     }
     if plain == SCRIPT_RESPONSE {
-        return EventKind::ScriptResponse;
+        return Arrived::ScriptResponse(fields.value);
     }
-    EventKind::Redirect
+    Arrived::Redirect(fields.target as usize)
 }
 
 // A record that can be read.
@@ -64,6 +59,9 @@ fn react(policy: &[u32], scripts: &[u8], state: &mut [u32], fields: Record, out:
 {
     let url = fields.url as usize;
     let connection = fields.connection as usize;
+    if plain_map(fields.map) == LOAD {
+        return load(policy, state, url, connection, out);
+    }
     let cookies = fields.cookies;
     let from = Delivery {
         url,
@@ -71,19 +69,7 @@ fn react(policy: &[u32], scripts: &[u8], state: &mut [u32], fields: Record, out:
         keys: fields.keys,
         cookies,
     };
-    let script = fields.script as usize;
-    let target = fields.target as usize;
-    let kind = kind_of(fields.map);
-    match kind {
-        EventKind::Load => load(policy, state, url, connection, out),
-        EventKind::DocumentResponse => {
-            document_response(policy, scripts, state, from, script, out)
-        }
-        EventKind::ScriptResponse => {
-            script_response(policy, scripts, state, from, fields.value, out)
-        }
-        EventKind::Redirect => redirect(policy, state, from, target, out),
-    }
+    arrive(policy, scripts, state, from, arrived_of(fields), out)
 }
 
 pub fn feed(policy: &[u32], scripts: &[u8], state: &mut [u32], bytes: &[u8], out: &mut [u8]) -> Done
