@@ -134,9 +134,9 @@ module _ (d : Direction) (r : Record) (out : List ℕ) where
   unfolding encoded
   encoded-accepted e = rw e
 
-  pub written-whole : (n : ℕ) (after : List ℕ) → longest d ≤ length out → carriable d r ≡ true → n ≡ size (r .map) (r .keys) → after ≡ sets out 0 (bytesOf r)
+  pub written-whole : {n : ℕ} {after : List ℕ} → longest d ≤ length out → carriable d r ≡ true → n ≡ size (r .map) (r .keys) → after ≡ sets out 0 (bytesOf r)
       → record { number = accepted; length = n; buffer = after } ≡ encoded d r out
-  written-whole n after l e en ea =
+  written-whole {n} {after} l e en ea =
       let fit : 0 + length (bytesOf r) ≤ length out =
       omega (arith, size-longest d (r .map) (r .keys) (known d r (subst T (sym e) tt)), bytes-length r) in
       let same-length : n ≡ length (bytesOf r) = en ∙ sym (bytes-length r) in

@@ -82,7 +82,7 @@ unfolding widths
 keys-read bytes m k em h = value-at bytes m 0 2 (bit m 2) k (one-mul (bit m 2)) h ∙ sym (keys-of bytes m 0 em)
 
 -- the fields, with a map and a key map that are those of the bytes
-pub fields-read : (bytes : List ℕ) (m keys : ℕ) → m ≡ mapOf bytes → keys ≡ keysOf bytes → (u c s v t : ℕ) (cs : List ℕ)
+pub fields-read : (bytes : List ℕ) (m keys : ℕ) → m ≡ mapOf bytes → keys ≡ keysOf bytes → {u c s v t : ℕ} {cs : List ℕ}
     → u ≡ number (take (bit m 0) (drop 1 bytes))
     → c ≡ number (take (bit m 1) (drop (start 1 m keys) bytes))
     → cs ≡ split (cookieWidths keys) (drop (start 3 m keys) bytes)
@@ -91,7 +91,7 @@ pub fields-read : (bytes : List ℕ) (m keys : ℕ) → m ≡ mapOf bytes → ke
     → t ≡ number (take (bit m 5) (drop (start 13 m keys) bytes))
     → made m u c keys cs s v t ≡ fieldsOf bytes
 unfolding fieldsOf widths start
-fields-read bytes m keys em ek u c s v t cs hu hc hcs hs hv ht =
+fields-read bytes m keys em ek {u} {c} {s} {v} {t} {cs} hu hc hcs hs hv ht =
     let vs = split (widths m keys) (drop 1 bytes) in
     let pu = value-at bytes m keys 0 (bit m 0) u (one-mul (bit m 0)) hu in
     let pc = value-at bytes m keys 1 (bit m 1) c (one-mul (bit m 1)) hc in

@@ -28,24 +28,12 @@ unfolding backWidths widths
 back-widths m = rw (one-mul (bit m 3), one-mul (bit m 5))
 
 -- three fields of widths o, p and q, which are a, b and c, each at the place after the last
-pub three : (l l1 l2 l3 : List ℕ) (i o p q r s a b c x y z : ℕ) → o ≡ a → p ≡ b → q ≡ c
+pub three : {l1 l2 l3 : List ℕ} {o p q r s a b c : ℕ} (l : List ℕ) (i x y z : ℕ) → o ≡ a → p ≡ b → q ≡ c
     → l1 ≡ sets l i (digits o x) → r ≡ i + o → l2 ≡ sets l1 r (digits p y) → s ≡ r + p → l3 ≡ sets l2 s (digits q z)
     → l3 ≡ sets l i (join (a ∷ b ∷ c ∷ []) (x ∷ y ∷ z ∷ []))
 unfolding join
-three l l1 l2 l3 i o p q r s a b c x y z eo ep eq e1 er e2 es e3 =
+three {o = o} {p = p} {q = q} l i x y z eo ep eq e1 er e2 es e3 =
     rw (← eo, ← ep, ← eq, append-nil (digits q z), sets-append (digits o x) (digits p y ++ digits q z) l i, length-digits o x, sets-append (digits p y) (digits q z) (sets l i (digits o x)) (i + o), length-digits p y, e3, es, e2, er, e1)
-
--- where there is room for all three, there is room for each; n, m and k are lengths of the buffer before each is written
-module _ (i a b c n o : ℕ) (room : i + sum (a ∷ b ∷ c ∷ []) ≤ n) (eo : o ≡ a) where
-  pub first-room : i + o ≤ n
-  first-room = omega arith
-
-  module _ (p r m : ℕ) (ep : p ≡ b) (er : r ≡ i + o) (em : m ≡ n) where
-    pub second-room : r + p ≤ m
-    second-room = omega arith
-
-    pub third-room : (q s k : ℕ) → q ≡ c → s ≡ r + p → k ≡ m → s + q ≤ k
-    third-room q s k eq es ek = omega arith
 
 -- ---- the whole record: what comes before the cookie values, those values, and what comes after them
 sum-append : (a b : List ℕ) → sum (a ++ b) ≡ sum a + sum b
@@ -123,10 +111,10 @@ module _ (r : Record) (eight : length (r .cookies) ≡ 8) where
   bytes-split =
       rw (widths-split (r .map) (r .keys), values-split, join-append (frontWidths (r .map)) (cookieWidths (r .keys) ++ backWidths (r .map)) (r .url ∷ r .connection ∷ r .keys ∷ []) (r .cookies ++ (r .script ∷ r .value ∷ r .target ∷ [])) front-count, join-append (cookieWidths (r .keys)) (backWidths (r .map)) (r .cookies) (r .script ∷ r .value ∷ r .target ∷ []) cookie-count)
 
-  pub written-in-turn : (l l1 l2 l3 : List ℕ)
+  pub written-in-turn : {l1 l2 l3 : List ℕ} (l : List ℕ)
       → l1 ≡ sets l 0 front → l2 ≡ sets l1 (start 3 (r .map) (r .keys)) cookies → l3 ≡ sets l2 (start 3 (r .map) (r .keys) + sum (cookieWidths (r .keys))) back
       → l3 ≡ sets l 0 (bytesOf r)
-  written-in-turn l l1 l2 l3 e1 e2 e3 =
+  written-in-turn l e1 e2 e3 =
       let f : 0 + length front ≡ start 3 (r .map) (r .keys) =
       omega (arith, front-sum (r .map) (r .keys), length-join (frontWidths (r .map)) (r .url ∷ r .connection ∷ r .keys ∷ []) front-count) in
       rw (bytes-split, sets-append front (cookies ++ back) l 0, f, sets-append cookies back (sets l 0 front) (start 3 (r .map) (r .keys)), length-join (cookieWidths (r .keys)) (r .cookies) cookie-count, e3, e2, e1)

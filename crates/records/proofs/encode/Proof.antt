@@ -1,40 +1,55 @@
 -- `encode` meets its contract: at each return the tests that led there say what encoding answers.
-use mathlib.Core.Path.{sym, _∙_, subst}
+use Prim.Native.Nat.{_≤_}
+use mathlib.Core.Bool.{true}
+use mathlib.Core.Path.{_≡_, sym, _∙_, subst}
 use native.Mathlib.Omega.{arith}
 use lib.Dec.{T}
+use lib.ListN.{length}
 use denote.Ref.{now}
 use borrow.Author.Tests.{not-true, not-false}
+use Rattle.records.specs.Layout.{longest}
 use Rattle.records.specs.Codec.{carriable}
 use Rattle.records.proofs.Encoding.{no-room, not-carriable, written-whole, size-longest, known}
 use borrow.Author.Needs.{needs}
 use Rattle.records.proofs.encode.Statement.{statement}
 use Rattle.records.proofs.encode.Tie as tie
 
+abbrev start : tie.After-longest → tie.Start
+start m = m .before .before
+
+abbrev measured : tie.Else2 → tie.After-longest
+measured m = m .before .before .before
+
+-- what is known after each test
+room : (m : tie.Else1) → longest (start (m .before) .args .direction) ≤ length (now (start (m .before) .args .out))
+room m = rw (m .before .longest .ensures) at (m .if1 .left)
+
+carried : (m : tie.Else2) → carriable (start (measured m) .args .direction) (start (measured m) .args .fields) ≡ true
+carried m = sym (m .before .carriable .ensures) ∙ not-false (m .before .carriable .result) (m .if2 .left)
+
 returns : tie.Need-returns
 returns c =
-    let a = c .before .before .before .args in
+    let a = start (c .before) .args in
     no-room (a .direction) (a .fields) (now (a .out)) (rw (c .before .longest .ensures) at (c .if1 .taken))
 
 returns-2 : tie.Need-returns-2
 returns-2 c =
-    let a = c .before .before .before .before .before .args in
-    not-carriable (a .direction) (a .fields) (now (a .out)) (rw (c .before .before .before .longest .ensures) at (c .before .before .if1 .left)) (sym (c .before .carriable .ensures) ∙ not-true (c .before .carriable .result) (c .if2 .taken))
-
-carried : (c : tie.Else2) → T (carriable (c .before .before .before .before .before .args .direction) (c .before .before .before .before .before .args .fields))
-carried c = subst T (sym (not-false (c .before .carriable .result) (c .if2 .left)) ∙ c .before .carriable .ensures) tt
+    let m = c .before .before in
+    let a = start (m .before) .args in
+    not-carriable (a .direction) (a .fields) (now (a .out)) (room m) (sym (c .before .carriable .ensures) ∙ not-true (c .before .carriable .result) (c .if2 .taken))
 
 write-requires : tie.Need-write-requires
 write-requires c κs =
-    let a = c .before .before .before .before .before .before .args in
-    let room = rw (c .before .before .before .before .longest .ensures) at (c .before .before .before .if1 .left) in
-    omega (arith, room, size-longest (a .direction) (a .fields .map) (a .fields .keys) (known (a .direction) (a .fields) (carried (c .before))))
+    let m = c .before in
+    let a = start (measured m) .args in
+    omega (arith, room (m .before .before), size-longest (a .direction) (a .fields .map) (a .fields .keys) (known (a .direction) (a .fields) (subst T (sym (carried m)) tt)))
 
 returns-3 : tie.Need-returns-3
 returns-3 c =
-    let a = c .before .before .before .before .before .before .before .before .before .args in
-    let write = c .before .before .write in
-    written-whole (a .direction) (a .fields) (now (a .out)) (write .result) (write .last .1 .0) (rw (c .before .before .before .before .before .before .before .longest .ensures) at (c .before .before .before .before .before .before .if1 .left))
-    (sym (c .before .before .before .before .before .carriable .ensures) ∙ not-false (c .before .before .before .before .before .carriable .result) (c .before .before .before .before .if2 .left)) (write .ensures .0) (write .ensures .1)
+    let call = c .before .before in
+    let m = call .before .before in
+    let a = start (measured m) .args in
+    written-whole (a .direction) (a .fields) (now (a .out)) (room (m .before .before)) (carried m) (call .write .ensures .0) (call .write .ensures .1)
 
 pub encode-spec : {M : Type 1} → statement M
 encode-spec =

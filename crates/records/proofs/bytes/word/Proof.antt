@@ -12,10 +12,10 @@ returns c = let a = c .before .before .args in rw (c .if1 .taken) (sym (number-n
 
 returns-2 : tie.Need-returns-2
 returns-2 c =
-    let a = c .before .before .before .before .before .before .before .before .before .before .args in
-    let one : a .on ≡ 1 = omega (arith, c .before .before .before .before .before .before .before .before .before .before) in
-    let four = number-four (now (a .bytes)) (a .at) (omega (arith, c .before .before .before .before .before .before .before .before .before .before)) in
-    rw one (omega (arith, four))
+    let second = c .before .before .before .before in
+    let s = second .before .before .before .before .before .before in
+    let one : s .args .on ≡ 1 = omega arith in
+    rw one (omega (arith, number-four (now (s .args .bytes)) (s .args .at) (omega arith)))
 
 pub word-spec : {M : Type 1} → statement M
 word-spec =

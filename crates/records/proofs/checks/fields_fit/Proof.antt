@@ -18,16 +18,22 @@ bounds s = omega arith
 
 returns : tie.Need-returns
 returns c =
-    let s = c .before .before .before .before .before .before .before .before .before .before .before .before .before .before .before .before .before .before in
-    let r = s .args .fields in
+    let value = c .before .before .before in
+    let script = value .before .before in
+    let cookies = script .before .before .before in
+    let keys = cookies .before in
+    let connection = keys .before .before in
+    let url = connection .before .before .before in
+    let s = url .before .before .before .before in
     let b = bounds s in
-    all-fit r (eight s) (c .before .before .before .before .before .before .before .before .before .before .before .before .before .before .stray .result) (c .before .before .before .before .before .before .before .before .before .before .before .stray2 .result) (c .before .before .before .before .before .before .before .before .before .stray3 .result) (c .before .before .before .before .before .before .before .before .stray-cookies .result) (c .before .before .before .before .before .stray4 .result) (c .before .before .before .stray5 .result) (c .stray6 .result)
-    (rw (c .before .before .before .before .before .before .before .before .before .before .before .before .before .before .before .before .bit .ensures .0) at (c .before .before .before .before .before .before .before .before .before .before .before .before .before .before .stray .ensures 1 (b .0)))
-    (rw (c .before .before .before .before .before .before .before .before .before .before .before .before .before .bit2 .ensures .0) at (c .before .before .before .before .before .before .before .before .before .before .before .stray2 .ensures 1 (b .1)))
-    (rw (c .before .before .before .before .before .before .before .before .before .before .bit3 .ensures .0) at (c .before .before .before .before .before .before .before .before .before .stray3 .ensures 1 (b .2)))
-    (c .before .before .before .before .before .before .before .before .stray-cookies .ensures)
-    (rw (c .before .before .before .before .before .before .before .bit4 .ensures .0) at (c .before .before .before .before .before .stray4 .ensures 1 (b .3)))
-    (rw (c .before .before .before .before .bit5 .ensures .0) at (c .before .before .before .stray5 .ensures 4 (b .4)))
+    all-fit (s .args .fields) (eight s)
+    (url .stray .result) (connection .stray2 .result) (keys .stray3 .result) (cookies .stray-cookies .result) (script .stray4 .result) (value .stray5 .result) (c .stray6 .result)
+    (rw (url .before .before .bit .ensures .0) at (url .stray .ensures 1 (b .0)))
+    (rw (connection .before .before .bit2 .ensures .0) at (connection .stray2 .ensures 1 (b .1)))
+    (rw (keys .before .bit3 .ensures .0) at (keys .stray3 .ensures 1 (b .2)))
+    (cookies .stray-cookies .ensures)
+    (rw (script .before .before .bit4 .ensures .0) at (script .stray4 .ensures 1 (b .3)))
+    (rw (value .before .bit5 .ensures .0) at (value .stray5 .ensures 4 (b .4)))
     (rw (c .before .before .bit6 .ensures .0) at (c .stray6 .ensures 1 (b .5)))
 
 pub fields-fit-spec : {M : Type 1} → statement M
