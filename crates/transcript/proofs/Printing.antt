@@ -42,11 +42,11 @@ pub record Printing (before : List ℕ) (start : ℕ) (sent text : List ℕ) (at
   pub place : at + length (sentLines (drop from sent)) ≡ start + length (sentLines sent)
   pub remains : sets text at (sentLines (drop from sent)) ≡ sets before start (sentLines sent)
 
-module _ (before : List ℕ) (start : ℕ) (sent : List ℕ) where
+module _ {before : List ℕ} {start : ℕ} {sent : List ℕ} where
   pub printing-begins : start + 5 * length sent ≤ length before → Printing before start sent before start 0
   printing-begins h = record { below = omega arith; long = refl; room = omega arith; place = refl; remains = refl }
 
-  module _ (text : List ℕ) (at from : ℕ) (p : Printing before start sent text at from) where
+  module _ {text : List ℕ} {at from : ℕ} (p : Printing before start sent text at from) where
     pub printing-ends : sentLines (drop from sent) ≡ [] → Wrote before start (sentLines sent) text at
     printing-ends e = record {
       place = omega (arith, p .place, ap length e);
@@ -55,7 +55,7 @@ module _ (before : List ℕ) (start : ℕ) (sent : List ℕ) where
     }
 
     -- the first of the bytes that are left is an accepted request
-    module _ (d : Decoded) (read : d ≡ firstRequest (drop from sent)) (ok : d .number ≡ accepted) where
+    module _ {d : Decoded} (read : d ≡ firstRequest (drop from sent)) (ok : d .number ≡ accepted) where
       first-ok : firstRequest (drop from sent) .number ≡ accepted
       first-ok = sym (ap number read) ∙ ok
 
@@ -68,9 +68,9 @@ module _ (before : List ℕ) (start : ℕ) (sent : List ℕ) where
       pub request-room : at + 13 ≤ length text
       request-room = omega (arith, p .room, p .long, request-bytes .0, request-bytes .1)
 
-      pub printing-goes-on : (after : List ℕ) (next to : ℕ) → to ≡ from + length (firstRecord (drop from sent)) → d .fields .url < 256 → d .fields .connection < 256
+      pub printing-goes-on : {after : List ℕ} {next to : ℕ} → to ≡ from + length (firstRecord (drop from sent)) → d .fields .url < 256 → d .fields .connection < 256
           → Wrote text at (lineOf d) after next → Printing before start sent after next to
-      printing-goes-on after next to e u c w =
+      printing-goes-on {to = to} e u c w =
           let rest = drop from sent in
           let line = lineOf d in
           let left : drop to sent ≡ drop (length (firstRecord rest)) rest = ap (λ (i : ℕ). drop i sent) e ∙ sym (drop-drop (length (firstRecord rest)) from sent) in

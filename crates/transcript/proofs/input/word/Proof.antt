@@ -8,7 +8,8 @@ use Rattle.transcript.proofs.input.word.Tie as tie
 
 returns : tie.Need-returns
 returns c =
-    let s = c .before .before .before .before .before .before .before .before .before in
+    let second = c .before .before .before .before in
+    let s = second .before .before .before .before .before in
     omega (arith, number-four (now (s .args .bytes)) (s .args .at) (s .pre))
 
 pub word-spec : {M : Type 1} → statement M

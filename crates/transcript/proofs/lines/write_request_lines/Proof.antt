@@ -21,7 +21,13 @@ abbrev μ-loop : tie.MeasureT-loop
 μ-loop text₀ start sent at₀ from₀ text at from = length sent - from
 
 loop-holds : tie.Need-loop-holds Inv-loop μ-loop
-loop-holds c = printing-begins _ _ _ (c .before .before .pre)
+loop-holds c = printing-begins (c .before .before .pre)
+
+abbrev start : tie.After-first-length Inv-loop μ-loop → tie.At-loop Inv-loop μ-loop
+start m = m .before .before .before
+
+abbrev measured : tie.Else1 Inv-loop μ-loop → tie.After-first-length Inv-loop μ-loop
+measured m = m .before .before .before .before
 
 -- the bytes that are left, the length of the first record among them, and that record read
 abbrev bytes : tie.At-loop Inv-loop μ-loop → List ℕ
@@ -30,20 +36,16 @@ bytes l = now (l .before .before .before .args .sent)
 abbrev left : tie.At-loop Inv-loop μ-loop → List ℕ
 left l = drop (l .loop .from) (bytes l)
 
-sized : (c : tie.After-first-length Inv-loop μ-loop) → c .first-length .result ≡ length (firstRecord (left (c .before .before .before)))
-sized c =
-    let l = c .before .before .before in
-    c .first-length .ensures ∙ ap (λ (bs : List ℕ). length (firstRecord bs)) (rest-is (bytes l) (l .loop .from))
+sized : (m : tie.After-first-length Inv-loop μ-loop) → m .first-length .result ≡ length (firstRecord (left (start m)))
+sized m = m .first-length .ensures ∙ ap (λ (bs : List ℕ). length (firstRecord bs)) (rest-is (bytes (start m)) (start m .loop .from))
 
-within : (c : tie.After-first-length Inv-loop μ-loop) → c .before .before .before .loop .from + c .first-length .result ≤ length (bytes (c .before .before .before))
-within c =
-    let l = c .before .before .before in
-    omega (arith, sized c, first-within (left l), length-drop (l .loop .from) (bytes l), c .before .before .loop-test .taken)
+within : (m : tie.After-first-length Inv-loop μ-loop) → start m .loop .from + m .first-length .result ≤ length (bytes (start m))
+within m = let l = start m in omega (arith, sized m, first-within (left l), length-drop (l .loop .from) (bytes l), m .before .before .loop-test .taken)
 
-read : (c : tie.After-decode Inv-loop μ-loop) → c .decode .result ≡ firstRequest (left (c .before .before .before .before .before))
-read c =
-    let l = c .before .before .before .before .before in
-    c .decode .ensures ∙ ap (decoded Request) (first-taken (bytes l) (l .loop .from) (c .before .before .first-length .result) (sized (c .before .before)))
+read : (m : tie.After-decode Inv-loop μ-loop) → m .decode .result ≡ firstRequest (left (start (m .before .before)))
+read m =
+    let f = m .before .before in
+    m .decode .ensures ∙ ap (decoded Request) (first-taken (bytes (start f)) (start f .loop .from) (f .first-length .result) (sized f))
 
 add-end : tie.Need-add-end Inv-loop μ-loop
 add-end c = omega (arith, within c)
@@ -53,30 +55,31 @@ part-decode-end c = omega (arith, within c)
 
 returns : tie.Need-returns Inv-loop μ-loop
 returns c =
-    let l = c .before .before .before .before .before .before .before in
-    printing-ends _ _ _ _ _ _ (l .loop .inv) (lines-none (left l) (λ ok. c .if1 .taken (ap number (read (c .before .before)) ∙ ok)))
+    let m = c .before .before in
+    let l = start (m .before .before) in
+    printing-ends (l .loop .inv) (lines-none (left l) (λ ok. c .if1 .taken (ap number (read m) ∙ ok)))
 
 write-request-line-requires : tie.Need-write-request-line-requires Inv-loop μ-loop
 write-request-line-requires c κs =
-    let l = c .before .before .before .before .before .before .before .before .before in
-    request-room _ _ _ _ _ _ (l .loop .inv) _ (read (c .before .before .before .before)) (c .before .before .if1 .left)
+    let m = c .before .before in
+    request-room (start (measured m) .loop .inv) (read (m .before .before)) (m .if1 .left)
 
 loop-less : tie.Need-loop-less Inv-loop μ-loop
 loop-less c =
-    let l = c .before .before .before .before .before .before .before .before .before .before .before .before in
-    let size = request-bytes _ _ _ _ _ _ (l .loop .inv) _ (read (c .before .before .before .before .before .before .before)) (c .before .before .before .before .before .if1 .left) in
-    omega (arith, size .0, size .1, sized (c .before .before .before .before .before .before .before .before .before))
+    let m = c .before .before .before .before .before in
+    let size = request-bytes (start (measured m) .loop .inv) (read (m .before .before)) (m .if1 .left) in
+    omega (arith, size .0, size .1, sized (measured m))
 
 loop-again : tie.Need-loop-again Inv-loop μ-loop
 loop-again c =
-    let l = c .before .before .before .before .before .before .before .before .before .before .before .before in
-    printing-goes-on _ _ _ _ _ _ (l .loop .inv) _ (read (c .before .before .before .before .before .before .before)) (c .before .before .before .before .before .if1 .left) _ _ _
-    (ap (λ (n : ℕ). l .loop .from + n) (sized (c .before .before .before .before .before .before .before .before .before))) (search needs) (search needs) (c .before .before .write-request-line .ensures)
+    let m = c .before .before .before .before .before in
+    printing-goes-on (start (measured m) .loop .inv) (read (m .before .before)) (m .if1 .left)
+    (ap (λ (n : ℕ). start (measured m) .loop .from + n) (sized (measured m))) (search needs) (search needs) (c .before .before .write-request-line .ensures)
 
 returns-2 : tie.Need-returns-2 Inv-loop μ-loop
 returns-2 c =
     let l = c .before in
-    printing-ends _ _ _ _ _ _ (l .loop .inv) (ap sentLines (drop-of-length-le (bytes l) {i = l .loop .from} (omega arith)) ∙ lines-end)
+    printing-ends (l .loop .inv) (ap sentLines (drop-of-length-le (bytes l) {i = l .loop .from} (omega arith)) ∙ lines-end)
 
 pub write-request-lines-spec : {M : Type 1} → statement M
 write-request-lines-spec =
