@@ -17,18 +17,24 @@ Inv-loop policy input state₀ scripts counts₀ at₀ state counts at =
 abbrev μ-loop : tie.MeasureT-loop
 μ-loop policy input state₀ scripts counts₀ at₀ state counts at = length input - at
 
+abbrev start : tie.At-loop Inv-loop μ-loop → tie.Start Inv-loop μ-loop
+start l = l .before .before .before .before .before
+
+abbrev top : tie.After-start Inv-loop μ-loop → tie.At-loop Inv-loop μ-loop
+top m = m .before .before .before
+
+abbrev found : tie.After-feed-record Inv-loop μ-loop → tie.After-start Inv-loop μ-loop
+found m = m .before .before .before .before .before
+
 -- the record that was found is within the input
-within : (c : tie.After-start Inv-loop μ-loop)
-    → let l = c .before .before .before in (c .start .given .0 .0 ≡ l .loop .at + 1) × (c .start .given .0 .0 + c .start .given .0 .1 .0 ≤ length (now (l .before .before .before .before .before .args .input)))
-within c =
-    let l = c .before .before .before in
-    record-within (now (l .before .before .before .before .before .args .input)) (l .loop .at) (c .start .given .0 .0) (c .start .given .0 .1 .0) (sym (c .before .before .next-record .ensures) ∙ c .start .given .1)
+within : (m : tie.After-start Inv-loop μ-loop)
+    → (m .start .given .0 .0 ≡ top m .loop .at + 1) × (m .start .given .0 .0 + m .start .given .0 .1 .0 ≤ length (now (start (top m) .args .input)))
+within m =
+    record-within (now (start (top m) .args .input)) (top m .loop .at) (m .start .given .0 .0) (m .start .given .0 .1 .0) (sym (m .before .before .next-record .ensures) ∙ m .start .given .1)
 
 -- the records so far are fewer than the bytes that an input can have
-few : (c : tie.After-start Inv-loop μ-loop) → let l = c .before .before .before in l .loop .counts .accepted + l .loop .counts .refused < inputLimit
-few c =
-    let l = c .before .before .before in
-    omega (arith, within c .0, within c .1, l .loop .inv .0, l .before .before .before .before .before .pre .1)
+few : (m : tie.After-start Inv-loop μ-loop) → top m .loop .counts .accepted + top m .loop .counts .refused < inputLimit
+few m = omega (arith, within m .0, within m .1, top m .loop .inv .0, start (top m) .pre .1)
 
 add-end : tie.Need-add-end Inv-loop μ-loop
 add-end c = omega (arith, within (c .before) .1)
@@ -43,17 +49,17 @@ part-feed-record-end : tie.Need-part-feed-record-end Inv-loop μ-loop
 part-feed-record-end c = omega (arith, within (c .before .before .before) .1)
 
 counted-requires : tie.Need-counted-requires Inv-loop μ-loop
-counted-requires c κs = few (c .before .before .before .before .before .before .before)
+counted-requires c κs = few (found (c .before .before))
 
 loop-less : tie.Need-loop-less Inv-loop μ-loop
-loop-less c = let w = within (c .before .before .before .before .before .before .before .before) in omega (arith, w .0, w .1)
+loop-less c = let w = within (found (c .before .before .before)) in omega (arith, w .0, w .1)
 
 loop-again : tie.Need-loop-again Inv-loop μ-loop
 loop-again c =
-    let l = c .before .before .before .before .before .before .before .before .before .before .before in
-    let w = within (c .before .before .before .before .before .before .before .before) in
-    let fed = c .before .before .before .feed-record in
-    (rw (c .counted .ensures) (omega (arith, w .0, l .loop .inv .0, counted-more (l .loop .counts) (fed .result))), w .1, fed .kept .1 .1 .0 ∙ l .loop .inv .2)
+    let fed = c .before .before .before in
+    let l = top (found fed) in
+    let w = within (found fed) in
+    (rw (c .counted .ensures) (omega (arith, w .0, l .loop .inv .0, counted-more (l .loop .counts) (fed .feed-record .result))), w .1, fed .feed-record .kept .1 .1 .0 ∙ l .loop .inv .2)
 
 pub feed-records-spec : {M : Type 1} → statement M
 feed-records-spec =
