@@ -27,11 +27,12 @@ loop-holds c = record { below = zero-le; long = search needs; remains = refl }
 
 loop-again : tie.Need-loop-again Inv-loop μ-loop
 loop-again c =
-    let l = c .before .before .before .before .before .loop in
-    let a = c .before .before .before .before .before .before .before .before .before .args in
     let call = c .before .before .store-if-delivered in
+    let m = c .before .before .before .before in
+    let l = m .before .loop in
+    let a = m .before .before .before .before .before .args in
     storing-goes-on (now (a .policy)) (a .connection) (a .host) (a .keys) (a .t6) (now (a .state)) (l .state) (call .last .1 .0) (l .key)
-    (c .before .before .before .before .loop-test .taken) (l .inv) (call .kept .1 .0) (call .ensures)
+    (m .loop-test .taken) (l .inv) (call .kept .1 .0) (call .ensures)
 
 same-length : tie.Need-same-length Inv-loop μ-loop
 same-length c = c .before .loop .inv .long ∙ sym (c .before .before .before .before .before .pre .0 .whole)

@@ -6,10 +6,9 @@ use Rattle.session.proofs.requests.send.Tie as tie
 returns : tie.Need-returns
 returns c =
     let set = c .before .before .set-connection in
-    let pack = c .before .before .before .word in
-    let write = c .before .before .before .before .before .before .before .write-next in
-    let made = c .before .before .before .before .before .before .before .before .before .request in
-    (rw (pack .ensures) at (set .ensures), rw (made .ensures) at (write .ensures .0), write .ensures .1)
+    let pack = c .before .before .before in
+    let write = pack .before .before .before .before in
+    (rw (pack .word .ensures) at (set .ensures), rw (write .before .before .request .ensures) at (write .write-next .ensures .0), write .write-next .ensures .1)
 
 pub send-spec : {M : Type 1} → statement M
 send-spec =
