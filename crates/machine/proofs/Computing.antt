@@ -1,11 +1,11 @@
 -- All definitions opened at once, for theorems that are proved by computing.
+use Rattle.prelude.specs.Choice.{branch, keep}
+use Rattle.prelude.specs.Refusals.{firstOf}
 use Rattle.labels.specs.Membership.{allBelow, anyBelow, subset, share}
 use Rattle.labels.specs.Sets.{holds, empty, all, only}
 use Rattle.records.specs.Bytes.{number, digits}
 use Rattle.records.specs.Layout.{widths, size, longest, join, split, fitWidths, values, fromValues}
 use Rattle.records.specs.Codec.{isOneOf, keysMissing, keysOf, mapUnknown, keysZero, lengthOther, readRefusal, fieldsOf, decoded, carriable, bytesOf, writeRefusal, encoded, firstRecord, readAtMost, readRun, writeRun}
-use Rattle.prelude.specs.Choice.{branch, keep}
-use Rattle.prelude.specs.Refusals.{firstOf}
 use Rattle.machine.specs.Policy.{emptyRow, rowWellFormed, connectionWellFormed, wellFormed, isUrl, fits, mayStore, mayCarry, mayRead, mayWrite, maySend, loadReaders, loadWriters, redirectReaders, redirectWriters}
 use Rattle.machine.specs.Session.{has, mapBelow, packed, kindOf, originOf, handlerOf, urlOf, cookieSound, hostSound, urlSound, documentSound, scriptSound, connectionSound, sound, setCookie, storeCookie, storeCookies, attaches, setConnection, requestMap, request, send}
 use Rattle.machine.specs.Scripts.{stepOf, stepAt, ended, goesOn, goesOnAfter, step, stopped, followed, runFrom, runScript}

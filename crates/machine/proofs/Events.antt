@@ -5,13 +5,13 @@ use native.Mathlib.Omega.{arith}
 use mathlib.Core.List.{List}
 use lib.Dec.{T, ltb→lt}
 use lib.ListN.{getD}
+use Rattle.prelude.specs.Choice.{keep}
+use Rattle.prelude.proofs.Choices.{parts, one}
 use Rattle.records.specs.declared.Record.{Record}
 use Rattle.records.specs.Layout.{keyNumbers}
-use Rattle.prelude.specs.Choice.{keep}
 use Rattle.machine.specs.Policy.{hostKeys, connections}
 use Rattle.machine.specs.Session.{has, Cookie}
 use Rattle.machine.specs.Machine.{Arrived, DocumentResponse, ScriptResponse, Redirect, Event, Load, Arrival, cookiesOf, arrivedOf, eventOf, named}
-use Rattle.prelude.proofs.Choices.{parts, one}
 use Rattle.machine.proofs.Lists.{Each, each-map, each-keep}
 
 abbrev pub EventCookies : (Cookie → Type 0) → Event → Type 0

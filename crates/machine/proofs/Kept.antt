@@ -7,6 +7,7 @@ use mathlib.Core.List.{List, [], _∷_}
 use mathlib.Core.Path.{subst}
 use lib.Dec.{T, eqb, ltb→lt, eqb→eq, lit≤}
 use lib.ListN.{length, getD, set, length-append}
+use Rattle.prelude.proofs.Choices.{parts, joined, one}
 use Rattle.labels.specs.Addresses.{hosts}
 use Rattle.labels.proofs.Below.{or-l}
 use Rattle.records.specs.declared.Direction.the-variants.{Input}
@@ -17,7 +18,6 @@ use Rattle.machine.specs.Policy.{hostKeys, connections, cookieIndex, url
 use Rattle.machine.specs.Session.{presenceAt, cookieValue, connectionWord, free, documentKind, scriptKind, packed, kindOf, originOf, handlerOf, urlOf, urlSound, Cookie, setCookie, storeCookie, storeCookies, setConnection, request, Effects, send}
 use Rattle.machine.specs.Scripts.{stepLimit, scriptAt, Step, end, constant, add, readCookie, writeCookie, sendRequest, skipIfZero, stepOf, stepAt, Progress, register, isScript, ended, goesOn, goesOnAfter, step, stopped, followed, runFrom, startingWith, runScript}
 use Rattle.machine.specs.Machine.{Arrived, DocumentResponse, ScriptResponse, Redirect, Event, Load, Arrival, carriesNames, named, pending, ofKind, awaited, ofTarget, readersAllow, writersAllow, receive, perform}
-use Rattle.prelude.proofs.Choices.{parts, joined, one}
 use Rattle.machine.proofs.Lists.{Each, each-append, each-set, each-at}
 use Rattle.machine.proofs.Accepted.{eventIn, Passed}
 use Rattle.machine.proofs.Events.{KeysBelow, EventKeys, event-keys, EventCookies, event-cookies, ArrivedValue, EventValue, event-value}

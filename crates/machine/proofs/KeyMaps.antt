@@ -6,9 +6,9 @@ use mathlib.Core.Bool.{Bool, true, false}
 use mathlib.Core.Path.{_≡_, sym, ap, _∙_, subst}
 use lib.Dec.{eqb}
 use Rattle.prelude.specs.Choice.{branch}
-use Rattle.machine.specs.Session.{has, mapBelow}
 use Rattle.prelude.proofs.Choices.{one}
 use Rattle.prelude.proofs.Bits.{half-bit}
+use Rattle.machine.specs.Session.{has, mapBelow}
 
 -- the lowest bit, and the others
 lowest : (b : Bool) (m : ℕ) → eqb ((branch b 1 0 + 2 * m) / 1 % 2) 1 ≡ b

@@ -8,19 +8,19 @@ use lib.Dec.{T, eqb}
 use store.Enc.{and-r}
 use lib.ListN.{length}
 use lib.Pow.{areBytes}
+use Rattle.prelude.specs.Refusals.{accepted}
+use Rattle.prelude.specs.Choice.{branch}
+use Rattle.prelude.proofs.Choices.{one, two}
 use Rattle.records.specs.declared.Direction.the-variants.{Input}
 use Rattle.records.specs.declared.Record.{Record}
-use Rattle.prelude.specs.Refusals.{accepted}
 use Rattle.records.specs.Codec.{decoded}
 use Rattle.records.specs.Codec.{Run as Reading}
-use Rattle.prelude.specs.Choice.{branch}
 use Rattle.machine.specs.Policy.{wellFormed}
 use Rattle.machine.specs.Session.{sound, Effects}
 use Rattle.machine.specs.Scripts.{tableBytes, stopped}
 use Rattle.machine.specs.Machine.{Event, named, outputRoom, outcome, feed}
 use Rattle.machine.specs.Guarantees.{areWords}
 use Rattle.machine.specs.Secrecy.{Item, Feedable, feedAll}
-use Rattle.prelude.proofs.Choices.{one, two}
 use Rattle.machine.proofs.Accepted.{eventIn, react, reacts}
 use Rattle.machine.proofs.Events.{event-keys}
 use Rattle.machine.proofs.Soundness.{sound-kept}

@@ -8,14 +8,14 @@ use mathlib.Core.List.{List, _++_, map}
 use mathlib.Core.Path.{_≡_, refl, sym, ap, _∙_, subst}
 use lib.Dec.{T, T-not}
 use lib.ListN.{length}
+use Rattle.prelude.specs.Choice.{keep}
+use Rattle.prelude.proofs.Choices.{keep-append, map-append}
 use Rattle.labels.specs.Addresses.{hosts}
 use Rattle.records.specs.declared.Record.{Record}
-use Rattle.prelude.specs.Choice.{keep}
 use Rattle.machine.specs.Policy.{hostKeys, connections, cookieIndex, urlHost, isUrl, mayStore, mayCarry, mayRead, mayWrite, maySend, loadReaders, redirectReaders, redirectWriters}
 use Rattle.machine.specs.Session.{stateWords, cookieValue, present, has, connectionWord, setCookie, setConnection}
 use Rattle.machine.specs.Machine.{plainMap, cookiesOf}
 use Rattle.machine.specs.Secrecy.{Observation}
-use Rattle.prelude.proofs.Choices.{keep-append, map-append}
 use Rattle.machine.proofs.StateWords.{length-cookie, length-connection, value-here, value-elsewhere, present-here, present-elsewhere, connection-past-cookie, connection-here, connection-elsewhere, value-past-connection, presence-past-connection}
 
 pub record Observer : Type 0 where

@@ -7,13 +7,13 @@ use mathlib.Core.List.{List, [], _∷_}
 use mathlib.Core.Path.{_≡_, refl, ap, subst}
 use lib.Dec.{T, eqb}
 use lib.ListN.{length}
-use Rattle.labels.specs.Addresses.{hosts}
 use Rattle.prelude.specs.Choice.{keep}
+use Rattle.prelude.proofs.Choices.{parts, one, two}
+use Rattle.labels.specs.Addresses.{hosts}
 use Rattle.machine.specs.Policy.{hostKeys, connections, cookieIndex, urlHost, mayStore, redirectReaders, redirectWriters}
 use Rattle.machine.specs.Session.{stateWords, free, documentKind, connectionWord, kindOf, originOf, handlerOf, urlOf, Cookie, storeCookie, storeCookies, setConnection}
 use Rattle.machine.specs.Scripts.{runScript}
 use Rattle.machine.specs.Machine.{Arrived, DocumentResponse, ScriptResponse, Redirect, Event, Load, Arrival, named, pending, ofKind, awaited, ofTarget, readersAllow, writersAllow, receive, perform}
-use Rattle.prelude.proofs.Choices.{parts, one, two}
 use Rattle.machine.proofs.Accepted.{allowed, allowed-by, react}
 use Rattle.machine.proofs.Events.{KeysBelow, EventKeys, connection-below}
 use Rattle.machine.proofs.Observer.{Observer, Laws, Agree, agree-refl, agree-trans, agree-sym, unseen-cookie, unseen-connection, same-cookie, same-connection}

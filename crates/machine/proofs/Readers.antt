@@ -4,13 +4,13 @@ use Prim.Native.Nat.{ℕ, _<_}
 use mathlib.Core.Bool.{Bool, true, false, not, _&&_, _||_}
 use mathlib.Core.List.{List}
 use lib.Dec.{T, ltb, ltb→lt}
+use Rattle.prelude.proofs.Choices.{parts}
 use Rattle.labels.specs.Membership.{endpoints}
 use Rattle.labels.specs.Sets.{holds, within, meets}
 use Rattle.labels.proofs.Below.{all-at}
 use Rattle.labels.proofs.Membership.{share-mono, share-member}
 use Rattle.labels.proofs.Words.{holds-below}
 use Rattle.machine.specs.Policy.{urlRows, connections, urlAddress, cookieIndex, urlReaders, cookieReaders, connectionReaders, scriptReaders, urlHost, urlMessage, urlEvent, emptyRow, rowWellFormed, connectionWellFormed, wellFormed, isUrl, mayStore, mayCarry, mayRead, mayWrite, maySend, loadReaders, redirectReaders}
-use Rattle.prelude.proofs.Choices.{parts}
 use Rattle.machine.proofs.Observer.{Observer, Laws}
 
 unfoldable pub readers : ℕ → List ℕ → Observer

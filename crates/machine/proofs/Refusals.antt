@@ -1,10 +1,10 @@
 -- A refusal changes nothing, and no call changes the output buffer past the bytes that it counts.
 use borrow.Author.Tests.{ne-eqb}
-use Rattle.records.specs.declared.Direction.the-variants.{Request}
 use Rattle.prelude.specs.Refusals.{accepted}
+use Rattle.prelude.specs.Choice.{branch}
+use Rattle.records.specs.declared.Direction.the-variants.{Request}
 use Rattle.records.specs.Codec.{writeRun}
 use Rattle.records.proofs.Runs.{run-kept}
-use Rattle.prelude.specs.Choice.{branch}
 use Rattle.machine.specs.Scripts.{stopped}
 use Rattle.machine.specs.Machine.{refusal, outcome, feed}
 use Rattle.machine.specs.Guarantees.{RefusalChangesNothing, PastIsKept}

@@ -7,20 +7,20 @@ use mathlib.Core.Path.{_≡_, refl, sym, ap, ap₂, _∙_, subst}
 use lib.Dec.{T, eqb, eqb→eq, T-not, not-T}
 use lib.ListN.{length, length-replicate}
 use lib.Pow.{areBytes}
+use Rattle.prelude.specs.Refusals.{accepted}
+use Rattle.prelude.specs.Choice.{branch, keep}
+use Rattle.prelude.proofs.Choices.{either, branch-true, branch-false}
 use Rattle.labels.specs.Sets.{holds}
 use Rattle.records.specs.declared.Direction.the-variants.{Input}
 use Rattle.records.specs.declared.Record.{Record}
-use Rattle.prelude.specs.Refusals.{accepted}
 use Rattle.records.specs.Codec.{decoded, readAtMost, readRun, writeRun}
 use Rattle.records.specs.Codec.{Run as Reading}
-use Rattle.prelude.specs.Choice.{branch, keep}
 use Rattle.machine.specs.Policy.{urlMessage, urlEvent, wellFormed}
 use Rattle.machine.specs.Session.{stateWords, emptyState, Cookie}
 use Rattle.machine.specs.Scripts.{tableBytes, stopped}
 use Rattle.machine.specs.Machine.{Event, Load, Arrival, plainMap, cookiesOf, eventOf, named, refusal, outcome, feed}
 use Rattle.machine.specs.Guarantees.{areWords}
 use Rattle.machine.specs.Secrecy.{Item, Feedable, feedAll, run, shownCookies, shown, shownRecord, shownRecords, remaining, observationOf, observations, SameView, Secrecy, NothingUnread}
-use Rattle.prelude.proofs.Choices.{either, branch-true, branch-false}
 use Rattle.machine.proofs.Accepted.{all-passed}
 use Rattle.machine.proofs.Soundness.{empty-sound}
 use Rattle.machine.proofs.WordSizes.{words-kept}

@@ -8,14 +8,14 @@ use mathlib.Core.Path.{_≡_, refl, sym, ap, ap₂, _∙_}
 use lib.Dec.{T, eqb}
 use lib.ListN.{getD}
 use store.Enc.{and-r}
+use Rattle.prelude.specs.Choice.{branch, keep}
+use Rattle.prelude.proofs.Choices.{either, and-alike, one, two, branch-false, keep-one, keep-none}
 use Rattle.records.specs.declared.Record.{Record}
 use Rattle.records.specs.Layout.{keyNumbers, documentRequest, scriptRequest, withCookies}
-use Rattle.prelude.specs.Choice.{branch, keep}
 use Rattle.machine.specs.Policy.{hostKeys, cookieIndex, urlHost, mayCarry}
 use Rattle.machine.specs.Session.{documentKind, cookieValue, present, has, keyMap, Cookie, attaches, requestMap, request}
 use Rattle.machine.specs.Machine.{plainMap, cookiesOf}
 use Rattle.machine.specs.Secrecy.{Observation}
-use Rattle.prelude.proofs.Choices.{either, and-alike, one, two, branch-false, keep-one, keep-none}
 use Rattle.machine.proofs.Lists.{Each}
 use Rattle.machine.proofs.KeyMaps.{has-map}
 use Rattle.machine.proofs.Observer.{Observer, Laws, Agree, observationBy, observationsBy}

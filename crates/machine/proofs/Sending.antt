@@ -6,9 +6,11 @@ use native.Mathlib.Omega.{arith}
 use mathlib.Core.List.{List, [], _∷_, map}
 use mathlib.Core.Logic.{⊎-elim}
 use mathlib.Core.Path.{_≡_, refl}
-use lib.Dec.{T, ltb, eqb, ltb→lt, nltb→le, eqb→eq}
+use lib.Dec.{T, ltb, eqb, ltb→lt, eqb→eq}
 use lib.ListN.{length}
 use lib.Pow.{areBytes}
+use Rattle.prelude.specs.Choice.{branch}
+use Rattle.prelude.proofs.Choices.{parts, one}
 use Rattle.labels.proofs.Below.{or-cases}
 use Rattle.records.specs.declared.Direction.the-variants.{Request}
 use Rattle.records.specs.declared.Record.{Record}
@@ -19,13 +21,11 @@ use Rattle.records.specs.RoundTrips.{EightCookies}
 use Rattle.records.proofs.RoundTrips.{AllCarriable, none, more}
 use Rattle.records.proofs.Carriable.{Fit, carriable-by}
 use Rattle.records.proofs.Runs.{carriable-read}
-use Rattle.prelude.specs.Choice.{branch}
 use Rattle.machine.specs.Policy.{hostKeys, connections, cookieIndex, urlHost}
 use Rattle.machine.specs.Session.{cookieValue, keyMap, has, documentKind, scriptKind, attaches, requestMap, request, Effects}
 use Rattle.machine.specs.Scripts.{stepLimit, stopped}
-use Rattle.machine.specs.Machine.{outputRoom, outcome, feed}
+use Rattle.machine.specs.Machine.{outcome, feed}
 use Rattle.machine.specs.Guarantees.{areWords, SentReadsBack}
-use Rattle.prelude.proofs.Choices.{parts, one}
 use Rattle.machine.proofs.Lists.{Each}
 use Rattle.machine.proofs.KeyMaps.{has-map, map-below}
 use Rattle.machine.proofs.Accepted.{either-way}

@@ -9,11 +9,11 @@ use mathlib.Core.Path.{_≡_, _∙_}
 use lib.Dec.{T, ltb, eqb, ltb→lt, lt→ltb, eqb→eq, T-not}
 use lib.ListN.{length, getD, length-replicate, getD-replicate}
 use lib.Ieee.Fits.{eq→eqb}
+use Rattle.prelude.proofs.Choices.{parts, joined}
 use Rattle.labels.specs.Addresses.{hosts}
 use Rattle.labels.proofs.Below.{all-at, all-of, or-cases, or-l, or-r}
 use Rattle.machine.specs.Policy.{urlRows, hostKeys, connections, cookieIndex, isUrl}
 use Rattle.machine.specs.Session.{presenceAt, connectionsAt, stateWords, emptyState, cookieValue, presence, connectionWord, present, free, documentKind, scriptKind, packed, kindOf, originOf, handlerOf, urlOf, scriptCount, cookieSound, hostSound, urlSound, documentSound, scriptSound, connectionSound, sound, setCookie, setConnection}
-use Rattle.prelude.proofs.Choices.{parts, joined}
 use Rattle.machine.proofs.KeyMaps.{map-below}
 use Rattle.machine.proofs.StateWords.{length-cookie, length-connection, value-here, value-elsewhere, presence-here, presence-elsewhere, present-here, present-elsewhere, connection-past-cookie, connection-here, connection-elsewhere, value-past-connection, presence-past-connection}
 use Rattle.machine.proofs.ConnectionWords.{kind-packed, origin-packed, handler-packed, url-packed}

@@ -9,10 +9,10 @@ use mathlib.Core.Path.{_≡_, refl, sym, ap, ap₂, _∙_, subst}
 use lib.Dec.{T, ltb, eqb, ltb→lt, T-not, not-T}
 use lib.ListN.{length, set}
 use Rattle.prelude.specs.Choice.{keep}
+use Rattle.prelude.proofs.Choices.{parts, either, and-alike, one, two}
 use Rattle.machine.specs.Policy.{hostKeys, connections, cookieIndex, urlHost, isUrl, isConnection, mayRead, mayWrite, maySend}
 use Rattle.machine.specs.Session.{stateWords, scriptKind, cookieValue, present, packed, Effects, send}
 use Rattle.machine.specs.Scripts.{scriptSteps, stepLimit, Step, end, constant, add, readCookie, writeCookie, sendRequest, skipIfZero, stepAt, scriptAt, Progress, register, isRegister, isKey, isScript, ended, goesOn, goesOnAfter, step, stopped, followed, runFrom, startingWith, runScript}
-use Rattle.prelude.proofs.Choices.{parts, either, and-alike, one, two}
 use Rattle.machine.proofs.Observer.{Observer, Laws, Agree, observationsBy, observations-append, agree-refl, agree-sym, agree-trans, unseen-cookie, unseen-connection, same-cookie, same-connection}
 use Rattle.machine.proofs.SeenRequests.{unseen-request, same-request}
 

@@ -11,11 +11,12 @@ use lib.Dec.{T, ltb, eqb, ltb→lt, lt→ltb, eqb→eq}
 use lib.ListN.{length, getD, drop}
 use lib.Pow.{areBytes}
 use lib.Ieee.Fits.{and-i}
+use Rattle.prelude.specs.Refusals.{accepted}
+use Rattle.prelude.proofs.Choices.{parts}
 use Rattle.labels.proofs.Below.{or-cases}
 use Rattle.records.specs.declared.Direction.the-variants.{Input}
 use Rattle.records.specs.declared.Record.{Record}
 use Rattle.records.specs.Layout.{widths, values, fitWidths}
-use Rattle.prelude.specs.Refusals.{accepted}
 use Rattle.records.specs.Codec.{decoded}
 use Rattle.records.proofs.Encoding.{counted, fitting}
 use Rattle.records.proofs.Carriable.{decoded-carriable}
@@ -24,7 +25,6 @@ use Rattle.machine.specs.Session.{presenceAt, connectionsAt, free, docum
 use Rattle.machine.specs.Scripts.{stepLimit, stopped, scriptAt, scriptBytes}
 use Rattle.machine.specs.Machine.{feed, perform}
 use Rattle.machine.specs.Guarantees.{areWords, WordsKept}
-use Rattle.prelude.proofs.Choices.{parts}
 use Rattle.machine.proofs.Lists.{Each, each-take, each-drop, each-at, each-of}
 use Rattle.machine.proofs.ConnectionWords.{below-kind}
 use Rattle.machine.proofs.Accepted.{eventIn, Passed, either-way}

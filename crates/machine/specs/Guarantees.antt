@@ -6,8 +6,8 @@ use mathlib.Core.Path.{_≡_}
 use lib.Dec.{T, ltb}
 use lib.ListN.{length, take, drop}
 use lib.Pow.{areBytes}
-use Rattle.records.specs.declared.Direction.the-variants.{Request}
 use Rattle.prelude.specs.Refusals.{accepted}
+use Rattle.records.specs.declared.Direction.the-variants.{Request}
 use Rattle.records.specs.Codec.{readRun}
 use Rattle.machine.specs.Session.{emptyState, sound}
 use Rattle.machine.specs.Machine.{outcome, Fed, feed}

@@ -5,8 +5,8 @@ use mathlib.Core.Bool.{Bool, _&&_}
 use mathlib.Core.List.{List, [], _∷_, _++_}
 use lib.Dec.{ltb, eqb}
 use lib.ListN.{getD, set, take, drop}
-use Rattle.records.specs.declared.Record.{Record}
 use Rattle.prelude.specs.Choice.{branch}
+use Rattle.records.specs.declared.Record.{Record}
 use Rattle.machine.specs.Policy.{hostKeys, cookieIndex, urlHost, isUrl, isConnection, mayRead, mayWrite, maySend}
 use Rattle.machine.specs.Session.{scriptCount, scriptKind, cookieValue, present, setCookie, Effects, send}
 

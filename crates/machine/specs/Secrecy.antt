@@ -7,13 +7,13 @@ use mathlib.Core.Path.{_≡_}
 use lib.Dec.{T, eqb}
 use lib.ListN.{length, take}
 use lib.Pow.{areBytes}
+use Rattle.prelude.specs.Refusals.{accepted}
+use Rattle.prelude.specs.Choice.{branch, keep}
 use Rattle.labels.specs.Sets.{holds, meets}
 use Rattle.labels.specs.Addresses.{hosts}
 use Rattle.records.specs.declared.Direction.the-variants.{Input, Request}
 use Rattle.records.specs.declared.Record.{Record}
-use Rattle.prelude.specs.Refusals.{accepted}
 use Rattle.records.specs.Codec.{decoded, readRun}
-use Rattle.prelude.specs.Choice.{branch, keep}
 use Rattle.machine.specs.Policy.{hostKeys, connections, cookieIndex, urlReaders, cookieReaders, connectionReaders, urlHost, urlMessage, urlEvent, wellFormed}
 use Rattle.machine.specs.Session.{emptyState, cookieValue, present, connectionWord, Cookie}
 use Rattle.machine.specs.Machine.{Event, Load, Arrival, plainMap, cookiesOf, eventOf, named, outputRoom, feed}

@@ -5,12 +5,12 @@ use mathlib.Core.Bool.{Bool, _&&_, _||_}
 use mathlib.Core.List.{List, [], _∷_, map}
 use lib.Dec.{ltb, eqb}
 use lib.ListN.{length, getD, set, replicate}
+use Rattle.prelude.specs.Choice.{branch}
 use Rattle.labels.specs.Membership.{allBelow}
 use Rattle.labels.specs.Addresses.{hosts}
 use Rattle.records.specs.declared.Record.{Record}
 use Rattle.records.specs.Bytes.{bit}
 use Rattle.records.specs.Layout.{keyNumbers, documentRequest, scriptRequest, withCookies}
-use Rattle.prelude.specs.Choice.{branch}
 use Rattle.machine.specs.Policy.{hostKeys, connections, cookieIndex, urlHost, isUrl, fits, mayStore, mayCarry}
 
 -- ---- the words

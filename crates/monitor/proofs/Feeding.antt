@@ -6,7 +6,7 @@ use mathlib.Core.Bool.{true}
 use mathlib.Core.List.{List, [], _∷_}
 use mathlib.Core.Path.{_≡_, _∙_}
 use lib.Dec.{T, T-not, ltb, eqb, lt→ltb, eqb→eq}
-use lib.ListN.{length, getD, take}
+use lib.ListN.{getD, take}
 use lib.Pow.{areBytes}
 use lib.Ieee.Fits.{and-i}
 use borrow.Author.Tests.{ne-eqb}

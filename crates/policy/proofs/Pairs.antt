@@ -9,10 +9,10 @@ use lib.Dec.{T, lit<, eqb, eqb→eq, eqb-refl}
 use lib.Ieee.Fits.{and-i}
 use lib.ListN.{getD}
 use store.Enc.{and-l, and-r}
-use Rattle.labels.proofs.Below.{same}
 use Rattle.prelude.proofs.Bits.{or-zero}
-use Rattle.machine.specs.Policy.{emptyRow}
 use Rattle.prelude.proofs.Choices.{joined}
+use Rattle.labels.proofs.Below.{same}
+use Rattle.machine.specs.Policy.{emptyRow}
 
 equal : (a b : ℕ) → a ≡ b → T (eqb a b)
 equal a b e = subst (λ (x : ℕ). T (eqb a x)) e (eqb-refl a)

@@ -9,13 +9,13 @@ use lib.Dec.{T, T-not, ltb, leb, eqb, ltb→lt, leb→le, le→leb}
 use lib.ListN.{length}
 use borrow.Author.Tests.{leb-true, lt-ltb, le-ltb, eq-eqb, ne-eqb}
 use store.Enc.{and-l, and-r}
+use Rattle.prelude.proofs.Choices.{is-true}
 use Rattle.labels.specs.Membership.{endpoints, allBelow}
 use Rattle.labels.specs.Sets.{holds, within}
 use Rattle.labels.specs.Addresses.{eventSet}
 use Rattle.labels.proofs.Below.{same, all-at, all-of, or-cases, or-l}
 use Rattle.labels.proofs.Endpoints.{event-within}
 use Rattle.labels.proofs.Words.{within-none}
-use Rattle.prelude.proofs.Choices.{is-true}
 use Rattle.machine.specs.Policy.{policyWords, urlRows, connections, urlAddress, urlReaders, urlWriters, urlEvent, noAddress, emptyRow, rowWellFormed, connectionWellFormed, wellFormed, isUrl}
 use Rattle.policy.specs.Given.{WellFormed, Url}
 

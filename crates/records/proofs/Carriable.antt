@@ -6,10 +6,10 @@ use mathlib.Core.List.{List, [], _∷_}
 use lib.Dec.{T, ltb, lt→ltb}
 use lib.Ieee.Fits.{and-i}
 use lib.Pow.{areBytes}
+use Rattle.prelude.specs.Refusals.{accepted}
 use Rattle.records.specs.declared.Direction.{Direction}
 use Rattle.records.specs.declared.Record.{Record}
 use Rattle.records.specs.Layout.{maps, widths, fitWidths, values}
-use Rattle.prelude.specs.Refusals.{accepted}
 use Rattle.records.specs.Codec.{isOneOf, keysMissing, decoded, carriable}
 use Rattle.records.proofs.RoundTrips.{carried-back}
 

@@ -11,17 +11,17 @@ use lib.ListN.{length, drop}
 use lib.Seq.{sets, sets-eq}
 use store.Enc.{and-l, and-r}
 use borrow.Author.Tests.{lt-ltb, le-ltb}
+use Rattle.prelude.specs.Refusals.{accepted}
+use Rattle.prelude.proofs.Refusals.{first-is, none-applies}
+use Rattle.prelude.proofs.Bits.{or-zero}
 use Rattle.records.specs.declared.Direction.{Direction}
 use Rattle.records.specs.declared.Direction.the-variants.{Input, Request}
 use Rattle.records.specs.declared.Record.{Record}
 use Rattle.records.specs.Bytes.{bit}
 use Rattle.records.specs.Layout.{keyNumbers, maps, longest, widths, sum, fitWidths, values, size}
-use Rattle.prelude.specs.Refusals.{accepted}
-use Rattle.prelude.proofs.Refusals.{first-is, none-applies}
 use Rattle.records.specs.Codec.{noRoom, malformed, isOneOf, keysMissing, carriable, bytesOf, writeRefusals, writeRefusal, encoded}
 use Rattle.records.specs.Places.{frontWidths, cookieWidths, backWidths}
 use Rattle.records.proofs.Joining.{length-join}
-use Rattle.prelude.proofs.Bits.{or-zero}
 use Rattle.records.proofs.Writing.{widths-split, values-split, size-split, front-sum, front-count, cookie-count}
 
 pub counted : (r : Record) → length (values r) ≡ length (widths (r .map) (r .keys))

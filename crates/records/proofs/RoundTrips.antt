@@ -3,21 +3,20 @@ use Prim.Native.Nat.{ℕ, zero, suc, _+_, _≤_, _<_}
 use native.Mathlib.Nat.{zero-lt-suc}
 use native.Mathlib.Omega.{arith}
 use mathlib.Core.Path.{_≡_, refl, sym, ap, _∙_}
-use mathlib.Core.Bool.{Bool, true, false, not, _||_, cond, true≢false}
+use mathlib.Core.Bool.{false, cond, true≢false}
 use mathlib.Core.List.{List, [], _∷_, _++_, append-nil}
 use lib.Dec.{T, eqb, eqb·suc-zero, nltb→le}
 use lib.ListN.{length, take, drop, length-drop, length-append}
 use lib.Seq.{take-at, drop-at, take-nil, drop-cons, take-append-add}
 use lib.Pow.{areBytes}
-use borrow.Author.Tests.{eqb-true, not-false}
-use Rattle.records.specs.declared.Direction.{Direction}
-use Rattle.records.specs.declared.Record.{Record}
-use Rattle.records.specs.Layout.{maps, longest, widths, sum, join, split, values, fromValues, size}
 use Rattle.prelude.specs.Choice.{branch}
 use Rattle.prelude.specs.Refusals.{accepted, firstOf}
 use Rattle.prelude.proofs.Choices.{is-true, is-false, passes}
 use Rattle.prelude.proofs.Refusals.{NoneOf, none-applied}
-use Rattle.records.specs.Codec.{isOneOf, keysMissing, mapOf, keysOf, mapUnknown, keysZero, lengthOther, readRefusals, readRefusal, fieldsOf, decoded, carriable, bytesOf, Written, writeRefusals, writeRefusal, encoded, firstRecord, readAtMost, readRun, writeRun, followedBy}
+use Rattle.records.specs.declared.Direction.{Direction}
+use Rattle.records.specs.declared.Record.{Record}
+use Rattle.records.specs.Layout.{maps, longest, widths, sum, join, split, values, fromValues, size}
+use Rattle.records.specs.Codec.{isOneOf, keysMissing, mapOf, keysOf, mapUnknown, keysZero, readRefusal, fieldsOf, decoded, carriable, bytesOf, Written, writeRefusals, writeRefusal, encoded, firstRecord, readAtMost, readRun, writeRun, followedBy}
 use Rattle.records.specs.RoundTrips.{EightCookies, WrittenIsRead, ReadIsWritten, RunIsRead, AllEightCookies, LongestIs}
 use Rattle.records.proofs.Values.{keys-first, same-keys}
 use Rattle.records.proofs.Decoding.{decoded-accepted, accepts, read-tests, known, right-length}

@@ -8,11 +8,11 @@ use mathlib.Core.List.{List, [], _∷_, _++_}
 use lib.Dec.{T, eqb, eqb→eq}
 use lib.ListN.{length, take, drop, length-append, length-drop}
 use lib.Seq.{drop-append-seam, drop-append-add, drop-at, drop-drop, length-take-le}
+use Rattle.prelude.specs.Refusals.{accepted}
+use Rattle.prelude.proofs.Choices.{is-true}
 use Rattle.records.specs.declared.Direction.{Direction}
 use Rattle.records.specs.declared.Record.{Record}
 use Rattle.records.specs.Layout.{longest}
-use Rattle.prelude.specs.Refusals.{accepted}
-use Rattle.prelude.proofs.Choices.{is-true}
 use Rattle.records.specs.Codec.{carriable, bytesOf, Written, writeRefusal, encoded, readRun, writeRun, followedBy}
 use Rattle.records.specs.RoundTrips.{AllEightCookies}
 use Rattle.records.proofs.Encoding.{known, bytes-length, size-longest, encoded-accepted, no-write-refusal}

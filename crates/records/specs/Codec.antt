@@ -1,7 +1,7 @@
 -- Decoding and encoding, both by the one layout (document 01, "Records").
 use Prim.Native.Nat.{ℕ, zero, suc, _+_}
 use mathlib.Core.Bool.{Bool, false, not, _&&_, _||_, cond}
-use mathlib.Core.List.{List, [], _∷_, _++_, map}
+use mathlib.Core.List.{List, [], _∷_, _++_}
 use lib.Dec.{ltb, eqb}
 use lib.ListN.{length, getD, take, drop, replicate}
 use Rattle.prelude.specs.Refusals.{accepted, Refusal, refuse, firstOf}

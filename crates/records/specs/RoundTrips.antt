@@ -5,11 +5,11 @@ use mathlib.Core.Path.{_≡_}
 use lib.Dec.{T}
 use lib.ListN.{length, take, drop}
 use lib.Pow.{areBytes}
+use Rattle.prelude.specs.Refusals.{accepted}
 use Rattle.records.specs.declared.Direction.{Direction}
 use Rattle.records.specs.declared.Direction.the-variants.{Input, Request}
 use Rattle.records.specs.declared.Record.{Record}
 use Rattle.records.specs.Layout.{longest}
-use Rattle.prelude.specs.Refusals.{accepted}
 use Rattle.records.specs.Codec.{decoded, encoded, writeRun, readRun}
 
 -- a record as the type of the code has it: the array of cookie values has eight

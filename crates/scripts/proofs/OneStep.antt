@@ -7,10 +7,10 @@ use mathlib.Core.Path.{_≡_, refl, sym, ap, _∙_}
 use borrow.Author.Tests.{ltb-true, lt-ltb, le-ltb, ne-eqb}
 use lib.ListN.{getD, set}
 use Rattle.prelude.specs.Choice.{branch}
+use Rattle.prelude.proofs.Choices.{chosen, left-out}
 use Rattle.machine.specs.Policy.{hostKeys, cookieIndex, urlHost, isUrl, isConnection, mayRead, mayWrite, maySend}
 use Rattle.machine.specs.Session.{scriptKind, cookieValue, present, packed, setCookie, setConnection, request, send}
 use Rattle.machine.specs.Scripts.{Progress, scriptSteps, registerCount, register, isRegister, isKey, isScript, end, readCookie, writeCookie, sendRequest, goesOn, goesOnAfter, ended, step, stepOf, stepAt}
-use Rattle.prelude.proofs.Choices.{chosen, left-out}
 use Rattle.session.specs.Output.{Output, output, writeNext, writeEach}
 use Rattle.scripts.specs.declared.position.Position.{Position}
 use Rattle.scripts.specs.Reached.{reached, after}

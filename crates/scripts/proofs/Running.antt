@@ -7,9 +7,9 @@ use mathlib.Core.Path.{_≡_, refl, sym, ap, _∙_}
 use lib.ListN.{length}
 use borrow.Author.Tests.{lt-ltb, le-ltb}
 use Rattle.prelude.specs.Choice.{branch}
+use Rattle.records.specs.declared.Record.{Record}
 use Rattle.machine.specs.Session.{stateWords, Effects}
 use Rattle.machine.specs.Scripts.{scriptSteps, registerCount, Step, stepLimit, startingWith, stepAt, step, stopped, followed, runFrom}
-use Rattle.records.specs.declared.Record.{Record}
 use Rattle.session.specs.Output.{Output, output, writeEach}
 use Rattle.scripts.specs.declared.position.Position.{Position}
 use Rattle.scripts.specs.declared.Ran.{Ran}

@@ -7,8 +7,8 @@ use mathlib.Core.Path.{_≡_}
 use lib.Dec.{T, ltb, leb, eqb, ltb→lt, lt→ltb, leb→le, le→leb, eqb→eq}
 use lib.Ieee.Fits.{and-i}
 use borrow.Author.Tests.{eq-eqb, ne-eqb, lt-ltb}
-use Rattle.labels.proofs.Below.{same}
 use Rattle.prelude.proofs.Choices.{parts, joined}
+use Rattle.labels.proofs.Below.{same}
 use Rattle.machine.specs.Policy.{urlRows, isUrl, fits}
 use Rattle.machine.specs.Session.{free, packed, documentKind, scriptKind, scriptCount, kindOf, originOf, handlerOf, urlOf, urlSound, documentSound, scriptSound, connectionSound}
 use Rattle.session.specs.Kinds.{documentShape, scriptShape}

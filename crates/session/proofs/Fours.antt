@@ -5,10 +5,10 @@ use mathlib.Core.Bool.{Bool, true, _&&_, and-assoc}
 use mathlib.Core.List.{List}
 use mathlib.Core.Path.{_≡_, sym, subst}
 use lib.Dec.{T, eqb, eqb→eq}
+use Rattle.prelude.proofs.Choices.{is-true}
 use Rattle.labels.specs.Membership.{allBelow}
 use Rattle.labels.proofs.Below.{all-at, all-of, four}
 use Rattle.machine.specs.Session.{free, connectionWord, connectionSound}
-use Rattle.prelude.proofs.Choices.{is-true}
 use Rattle.session.proofs.ConnectionTests.{free-sound}
 
 -- four words that are 0, by twos

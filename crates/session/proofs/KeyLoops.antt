@@ -7,9 +7,9 @@ use mathlib.Core.List.{List, _∷_, _++_, map, append-assoc, append-nil}
 use mathlib.Core.Path.{_≡_, refl, sym, ap, _∙_}
 use lib.ListN.{length, getD, take, drop, set, length-set}
 use lib.Seq.{take-suc-set, take-all}
+use Rattle.prelude.specs.Choice.{branch, keep}
 use Rattle.records.specs.Layout.{keyNumbers}
 use Rattle.records.proofs.Cookies.{keys-from}
-use Rattle.prelude.specs.Choice.{branch, keep}
 use Rattle.machine.specs.Policy.{hostKeys}
 use Rattle.machine.specs.Session.{stateWords, has, Cookie, storeCookie, storeCookies}
 use Rattle.session.specs.Delivered.{cookie, delivered}

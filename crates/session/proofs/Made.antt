@@ -5,8 +5,8 @@ use mathlib.Core.Bool.{Bool}
 use mathlib.Core.List.{List, [], _∷_, map}
 use mathlib.Core.Path.{_≡_, refl, ap}
 use lib.Dec.{lit<}
-use Rattle.records.specs.Layout.{keyNumbers}
 use Rattle.prelude.specs.Choice.{branch}
+use Rattle.records.specs.Layout.{keyNumbers}
 use Rattle.machine.specs.Policy.{hostKeys, cookieIndex, urlHost}
 use Rattle.machine.specs.Session.{cookieValue, has, keyMap, attaches, requestMap, request}
 use Rattle.machine.proofs.KeyMaps.{has-map}

@@ -8,9 +8,9 @@ use mathlib.Core.Path.{_≡_, sym, ap, _∙_}
 use borrow.Rule.Slice.PartMut.{putMid}
 use lib.ListN.{length, take, drop, length-append, length-drop, drop-of-length-le}
 use lib.Seq.{take-all, take-append-seam, drop-append-seam}
+use Rattle.prelude.specs.Refusals.{accepted}
 use Rattle.records.specs.declared.Direction.the-variants.{Request}
 use Rattle.records.specs.declared.Record.{Record}
-use Rattle.prelude.specs.Refusals.{accepted}
 use Rattle.records.specs.Codec.{bytesOf, Written, writeRefusal, encoded, writeRun}
 use Rattle.records.proofs.Encoding.{encoded-accepted}
 use Rattle.records.proofs.RoundTrips.{after, first-accepted, first-written}

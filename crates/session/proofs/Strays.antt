@@ -14,11 +14,11 @@ use lib.ListN.{length, getD, set, drop, drop-of-length-le}
 use lib.Seq.{drop-cons}
 use store.Enc.{and-l, and-r}
 use Rattle.prelude.proofs.Bits.{or-zero}
+use Rattle.prelude.proofs.Choices.{joined}
 use Rattle.labels.specs.Membership.{allBelow}
 use Rattle.labels.proofs.Below.{same, all-next, all-eight}
 use Rattle.machine.specs.Policy.{hostKeys}
 use Rattle.machine.specs.Session.{presence, has, cookieSound, hostSound}
-use Rattle.prelude.proofs.Choices.{joined}
 use Rattle.session.specs.Strays.{noneLeft}
 
 sooner : (a b c : Bool) → a && (b && c) ≡ b && (a && c)

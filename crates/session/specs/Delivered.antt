@@ -2,8 +2,8 @@
 use Prim.Native.Nat.{ℕ}
 use mathlib.Core.List.{List, map}
 use lib.ListN.{getD}
-use Rattle.records.specs.Layout.{keyNumbers}
 use Rattle.prelude.specs.Choice.{keep}
+use Rattle.records.specs.Layout.{keyNumbers}
 use Rattle.machine.specs.Session.{has, Cookie}
 
 abbrev pub cookie : ℕ → ℕ → Cookie

@@ -2,8 +2,8 @@
 ghost use mathlib.Core.Path.{_≡_};
 ghost use Prim.Native.Nat.{_<_};
 ghost use lib.ListN.{length};
-ghost use Rattle.labels.specs.Addresses.{hosts};
 ghost use Rattle.prelude.specs.Choice.{branch};
+ghost use Rattle.labels.specs.Addresses.{hosts};
 ghost use Rattle.machine.specs.Policy.{hostKeys, connections};
 ghost use Rattle.machine.specs.Session.{stateWords, present, has, setCookie, storeCookie, storeCookies};
 ghost use Rattle.session.specs.Given.{Session};

@@ -5,8 +5,8 @@ use mathlib.Core.Path.{_≡_, refl, sym, ap, _∙_}
 use mathlib.Core.List.{List, [], _∷_, _++_}
 use lib.ListN.{length, take, drop, length-append, length-drop}
 use lib.Seq.{drop-drop, take-all, sets, length-sets}
-use Rattle.records.specs.declared.Decoded.{Decoded}
 use Rattle.prelude.specs.Refusals.{accepted}
+use Rattle.records.specs.declared.Decoded.{Decoded}
 use Rattle.records.specs.Codec.{firstRecord}
 use Rattle.records.proofs.Cookies.{sets-append}
 use Rattle.transcript.specs.Text.{space, newline, decimal, hex, Wrote}

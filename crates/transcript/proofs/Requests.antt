@@ -8,12 +8,12 @@ use mathlib.Core.List.{List, [], _∷_, _++_}
 use lib.Dec.{eqb}
 use lib.ListN.{length, take, drop, length-append, length-drop, take-append-drop}
 use borrow.Author.Tests.{eqb-true, ne-eqb}
+use Rattle.prelude.specs.Refusals.{accepted}
 use Rattle.records.specs.declared.Direction.the-variants.{Request}
 use Rattle.records.specs.declared.Record.{Record}
 use Rattle.records.specs.declared.Decoded.{Decoded}
 use Rattle.records.specs.Bytes.{bit}
 use Rattle.records.specs.Layout.{maps, size}
-use Rattle.prelude.specs.Refusals.{accepted}
 use Rattle.records.specs.Codec.{isOneOf, mapOf, keysOf, decoded, firstRecord, readAtMost, readRun}
 use Rattle.records.proofs.Decoding.{known, right-length}
 use Rattle.records.proofs.Writing.{size-split, front-end}

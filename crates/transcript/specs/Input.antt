@@ -4,8 +4,8 @@ use mathlib.Core.Bool.{cond}
 use mathlib.Core.List.{List, [], _∷_}
 use lib.Dec.{ltb, eqb}
 use lib.ListN.{length, getD, take, drop}
-use Rattle.records.specs.Bytes.{number}
 use Rattle.prelude.specs.Refusals.{accepted}
+use Rattle.records.specs.Bytes.{number}
 use Rattle.machine.specs.Policy.{policyWords}
 use Rattle.machine.specs.Scripts.{tableBytes}
 use Rattle.transcript.specs.declared.counts.Counts.{Counts}

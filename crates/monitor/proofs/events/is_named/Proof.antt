@@ -4,8 +4,8 @@ use mathlib.Core.Bool.{_&&_}
 use lib.Dec.{T, ltb, ltb→lt}
 use store.Enc.{and-l, and-r}
 use mathlib.Core.Path.{sym, subst}
-use Rattle.machine.specs.Policy.{connections}
 use Rattle.prelude.proofs.Choices.{is-true}
+use Rattle.machine.specs.Policy.{connections}
 use Rattle.monitor.proofs.events.is_named.Statement.{statement}
 use Rattle.monitor.proofs.events.is_named.Tie as tie
 

@@ -4,11 +4,10 @@ use borrow.Author.Tests.{not-true, not-false}
 use denote.Ref.{now}
 use lib.Dec.{lit<}
 use lib.ListN.{take}
-use mathlib.Core.Bool.{true, not, _&&_}
+use mathlib.Core.Bool.{true, not}
 use mathlib.Core.Path.{_≡_, refl, sym, ap, _∙_}
 use Prim.Native.Nat.{zero-le}
 use Rattle.prelude.proofs.Refusals.{NoneOf}
-use Rattle.machine.specs.Policy.{isUrl, isConnection, loadReaders}
 use Rattle.machine.specs.Machine.{Event, Load, named, awaited, readersAllow, writersAllow, eventRefusals, perform}
 use Rattle.monitor.proofs.Reacting.{refused-by, performed, sent-done}
 use Rattle.monitor.proofs.events.load.Statement.{statement}

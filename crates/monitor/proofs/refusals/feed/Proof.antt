@@ -5,14 +5,13 @@ use denote.Ref.{now}
 use lib.Dec.{T}
 use lib.ListN.{length, take}
 use mathlib.Core.Bool.{not}
-use mathlib.Core.Path.{_≡_, sym, ap, _∙_, subst}
+use mathlib.Core.Path.{sym, ap, _∙_, subst}
 use native.Mathlib.Omega.{arith}
 use Rattle.prelude.proofs.Refusals.{NoneOf}
 use Rattle.records.specs.declared.Direction.the-variants.{Input}
 use Rattle.records.specs.declared.Decoded.{Decoded}
 use Rattle.records.specs.Codec.{decoded}
 use Rattle.records.proofs.RoundTrips.{longest-is}
-use Rattle.machine.specs.Session.{sound}
 use Rattle.machine.specs.Scripts.{tableBytes}
 use Rattle.machine.specs.Machine.{eventOf, outputRoom, lentRefusals}
 use Rattle.policy.specs.Given.{WellFormed}

@@ -2,9 +2,9 @@
 use borrow.Author.Needs.{needs}
 use denote.Ref.{now}
 use lib.Bits.{bitOr}
-use Rattle.machine.specs.Policy.{emptyRow}
-use Rattle.labels.proofs.Below.{eight}
 use Rattle.prelude.proofs.Bits.{or-zero}
+use Rattle.labels.proofs.Below.{eight}
+use Rattle.machine.specs.Policy.{emptyRow}
 use Rattle.policy.proofs.check.group_empty.Statement.{statement}
 use Rattle.policy.proofs.check.group_empty.Tie as tie
 

@@ -3,8 +3,8 @@ use borrow.Author.Needs.{needs}
 use denote.Ref.{now}
 use mathlib.Core.Path.{refl, _∙_}
 use Prim.Native.Nat.{_<_}
-use Rattle.machine.specs.Scripts.{registerCount, step}
 use Rattle.prelude.proofs.Choices.{chosen, left-out}
+use Rattle.machine.specs.Scripts.{registerCount, step}
 use Rattle.scripts.proofs.OneStep.{next, stops, all-named}
 use Rattle.scripts.proofs.steps.add.Statement.{statement}
 use Rattle.scripts.proofs.steps.add.Tie as tie

@@ -4,8 +4,8 @@ use borrow.Author.Tests.{lt-ltb, le-ltb}
 use denote.Ref.{now}
 use lib.Dec.{ltb}
 use mathlib.Core.Path.{refl}
-use Rattle.machine.specs.Scripts.{registerCount, step}
 use Rattle.prelude.proofs.Choices.{chosen, left-out}
+use Rattle.machine.specs.Scripts.{registerCount, step}
 use Rattle.scripts.proofs.OneStep.{next, stops}
 use Rattle.scripts.proofs.steps.constant.Statement.{statement}
 use Rattle.scripts.proofs.steps.constant.Tie as tie

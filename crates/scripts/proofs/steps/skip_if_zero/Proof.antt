@@ -4,8 +4,8 @@ use borrow.Author.Tests.{lt-ltb, le-ltb, eq-eqb, ne-eqb}
 use denote.Ref.{now}
 use lib.Dec.{ltb}
 use mathlib.Core.Path.{refl}
-use Rattle.machine.specs.Scripts.{registerCount, step}
 use Rattle.prelude.proofs.Choices.{chosen, left-out}
+use Rattle.machine.specs.Scripts.{registerCount, step}
 use Rattle.scripts.proofs.OneStep.{moved, next, stops}
 use Rattle.scripts.proofs.steps.skip_if_zero.Statement.{statement}
 use Rattle.scripts.proofs.steps.skip_if_zero.Tie as tie

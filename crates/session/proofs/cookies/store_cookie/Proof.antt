@@ -1,8 +1,8 @@
 -- `cookies::store_cookie` meets its contract: the test is the policy's.
 use borrow.Author.Needs.{needs}
 use mathlib.Core.Path.{refl}
-use Rattle.machine.specs.Session.{storeCookie}
 use Rattle.prelude.proofs.Choices.{chosen, left-out}
+use Rattle.machine.specs.Session.{storeCookie}
 use Rattle.session.proofs.cookies.store_cookie.Statement.{statement}
 use Rattle.session.proofs.cookies.store_cookie.Tie as tie
 

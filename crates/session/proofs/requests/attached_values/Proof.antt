@@ -3,8 +3,8 @@ use Prim.Native.Nat.{_-_, zero-le}
 use borrow.Author.Needs.{needs}
 use mathlib.Core.Path.{_≡_, refl}
 use native.Mathlib.Omega.{arith}
-use Rattle.machine.specs.Policy.{hostKeys}
 use Rattle.prelude.specs.Choice.{branch}
+use Rattle.machine.specs.Policy.{hostKeys}
 use Rattle.machine.specs.Policy.{cookieIndex}
 use Rattle.machine.specs.Session.{has, cookieValue}
 use Rattle.session.proofs.KeyLoops.{Filling, filling-goes-on, filling-ends}
