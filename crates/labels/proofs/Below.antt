@@ -1,14 +1,9 @@
 -- Tests: "or", tests that pass alike, and the bounded tests "all below" and "any below", each turned into what it says of every number, or of one, and back.
-use Prim.Native.Nat.{ℕ, zero, suc, _+_, _<_, _≤_}
-use native.Mathlib.Omega.{arith}
-use native.Mathlib.Numerals.{add-one}
-use native.Mathlib.Nat.{add-zero, add-suc, not-suc-le-zero, le-refl, le-step, eq-or-lt-of-le, le-of-suc-le-suc}
-use mathlib.Core.Bool.{Bool, true, false, _&&_, _||_, and-assoc, and-comm, and-true}
-use mathlib.Core.Logic.{_⊎_, inl, inr, ⊎-elim}
-use mathlib.Core.Path.{_≡_, refl, sym, subst}
-use lib.Dec.{T}
-use store.Enc.{and-l, and-r}
-use lib.Ieee.Fits.{and-i}
+use Rattle.prelude.proofs.Kit.{ℕ, _≤_, _<_, _+_, suc, zero, add-zero, le-of-suc-le-suc, not-suc-le-zero, add-one, arith, true, _&&_, Bool}
+use Rattle.prelude.proofs.Kit.{false, _||_, and-assoc, and-true, ⊎-elim, _≡_, sym, refl, subst, T, and-i, and-r, and-l}
+use native.Mathlib.Nat.{add-suc, le-refl, le-step, eq-or-lt-of-le}
+use mathlib.Core.Bool.{and-comm}
+use mathlib.Core.Logic.{_⊎_, inl, inr}
 use Rattle.labels.specs.Membership.{allBelow, anyBelow}
 
 pub or-cases : (x y : Bool) → T (x || y) → T x ⊎ T y

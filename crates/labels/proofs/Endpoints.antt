@@ -1,12 +1,7 @@
 -- The sets of an address's endpoints: within just the sets that hold the endpoint. Arms of a table, and what is past them.
-use Prim.Native.Nat.{ℕ, zero, suc, _<_, _≤_, zero-le}
+use Rattle.prelude.proofs.Kit.{ℕ, _≤_, _<_, suc, zero, zero-le, arith, _∷_, [], ⊎-elim, _≡_, sym, ap, lt-ltb}
 use native.Mathlib.Nat.{eq-or-lt-of-le}
-use native.Mathlib.Omega.{arith}
-use mathlib.Core.Path.{_≡_, sym, ap}
-use mathlib.Core.Logic.{⊎-elim}
-use mathlib.Core.List.{[], _∷_}
 use types.Run.{OneOf}
-use borrow.Author.Tests.{lt-ltb}
 use Rattle.labels.specs.Membership.{endpoints}
 use Rattle.labels.specs.Sets.{holds, within}
 use Rattle.labels.specs.Addresses.{messageEndpoint, eventEndpoint, messageSet, eventSet}

@@ -1,10 +1,7 @@
 -- The laws of sets of endpoints, said once, over membership: every representation of a set has them.
-use Prim.Native.Nat.{ℕ, _<_}
-use mathlib.Core.Bool.{Bool, true, false, not, _&&_, _||_}
-use mathlib.Core.Path.{_≡_, sym, subst}
-use lib.Dec.{T, T-not, not-T, eqb, eqb→eq, eqb-refl}
-use store.Enc.{and-l, and-r}
-use lib.Ieee.Fits.{and-i}
+use Rattle.prelude.proofs.Kit.{ℕ, _<_, true, _&&_, Bool, false, not, _||_, _≡_, sym, subst, T, eqb, eqb→eq, T-not, not-T, and-i, and-r}
+use Rattle.prelude.proofs.Kit.{and-l}
+use lib.Dec.{eqb-refl}
 use Rattle.labels.specs.Membership.{Membership, endpoints, subset, share}
 use Rattle.labels.proofs.Below.{all-at, all-of, any-at, any-of, same}
 

@@ -1,16 +1,13 @@
 -- The laws of sets that are words: bits against membership, and the empty set, all endpoints and singletons.
-use Prim.Native.Nat.{ℕ, zero, suc, _/_, _%_, _^_, _<_, min, suc-le-suc}
-use native.Mathlib.Nat.{zero-div, div-one, zero-lt-suc}
-use native.Mathlib.Numerals.{add-one}
-use native.Mathlib.Omega.{arith}
-use mathlib.Core.Path.{_≡_, refl, sym, ap, _∙_, subst}
-use mathlib.Core.Bool.{Bool, true, false, Bool·beq}
-use lib.Dec.{T, ltb, eqb, ltb→lt, lt→ltb, eqb→eq, eqb-refl}
+use Rattle.prelude.proofs.Kit.{ℕ, _<_, suc, _^_, zero, _%_, _/_, zero-lt-suc, div-one, add-one, arith, true, Bool, false, _≡_, sym, _∙_}
+use Rattle.prelude.proofs.Kit.{refl, ap, subst, T, eqb, ltb, eqb→eq, ltb→lt, lt→ltb, and-i, and-r, and-l}
+use Prim.Native.Nat.{min, suc-le-suc}
+use native.Mathlib.Nat.{zero-div}
+use mathlib.Core.Bool.{Bool·beq}
+use lib.Dec.{eqb-refl}
 use lib.Arith.{lt-one}
 use lib.Pow.{shr-lt}
 use lib.Bits.{bitAnd, and-step, and-shr, and-zero-l, and-zero-r}
-use lib.Ieee.Fits.{and-i}
-use store.Enc.{and-l, and-r}
 use Rattle.prelude.proofs.Bits.{half-bit}
 use Rattle.labels.specs.Membership.{endpoints, allBelow}
 use Rattle.labels.specs.Sets.{holds, within, empty, all, only}

@@ -1,11 +1,6 @@
 -- What acceptance says: every test passed. And what a call does where the tests that do not look at the event pass.
-use Prim.Native.Nat.{ℕ, _≤_}
-use mathlib.Core.Bool.{Bool, not, _&&_}
-use mathlib.Core.List.{List, _++_}
-use mathlib.Core.Path.{_≡_, ap, _∙_, subst}
-use lib.Dec.{T, ltb, eqb, eqb→eq, nltb→le, not-T}
-use lib.ListN.{length}
-use borrow.Author.Tests.{le-ltb}
+use Rattle.prelude.proofs.Kit.{ℕ, _≤_, _&&_, Bool, not, List, _++_, _≡_, _∙_, ap, subst, le-ltb, T, eqb, ltb, eqb→eq, not-T, length}
+use lib.Dec.{nltb→le}
 use Rattle.prelude.specs.Choice.{branch}
 use Rattle.prelude.specs.Refusals.{accepted, firstOf}
 use Rattle.prelude.proofs.Choices.{is-true, passes, in-two, one}

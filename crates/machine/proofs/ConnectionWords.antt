@@ -1,7 +1,5 @@
 -- The word of a connection: each of its four fields is had back.
-use Prim.Native.Nat.{ℕ, _^_, _<_}
-use native.Mathlib.Omega.{arith}
-use mathlib.Core.Path.{_≡_}
+use Rattle.prelude.proofs.Kit.{ℕ, _<_, _^_, arith, _≡_}
 use Rattle.machine.specs.Session.{packed, kindOf, originOf, handlerOf, urlOf}
 
 -- fields that are bytes, packed

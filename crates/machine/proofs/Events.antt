@@ -1,10 +1,6 @@
 -- What holds of each cookie of a record, and of its value, holds of what its event brings. The keys of an event's cookies are below 8, and
 -- where its numbers name something its connection is below 32.
-use Prim.Native.Nat.{ℕ, _<_}
-use native.Mathlib.Omega.{arith}
-use mathlib.Core.List.{List}
-use lib.Dec.{T, ltb→lt}
-use lib.ListN.{getD}
+use Rattle.prelude.proofs.Kit.{ℕ, _<_, arith, List, T, ltb→lt, getD}
 use Rattle.prelude.specs.Choice.{keep}
 use Rattle.prelude.proofs.Choices.{parts, one}
 use Rattle.records.specs.declared.Record.{Record}

@@ -1,12 +1,8 @@
 -- What the machine keeps through stores, requests, script steps and events: a sound state, Q of each cookie value and register, and R of each
 -- request that is sent; and how many requests there are at most. Sound states and the sizes of words are two instances.
-use Prim.Native.Nat.{ℕ, zero, suc, _+_, _*_, _%_, _^_, _≤_, _<_, zero-le}
-use native.Mathlib.Omega.{arith}
-use mathlib.Core.Bool.{false, _&&_}
-use mathlib.Core.List.{List, [], _∷_}
-use mathlib.Core.Path.{subst}
-use lib.Dec.{T, eqb, ltb→lt, eqb→eq, lit≤}
-use lib.ListN.{length, getD, set, length-append}
+use Rattle.prelude.proofs.Kit.{ℕ, _≤_, _<_, _+_, suc, _^_, zero, _*_, zero-le, _%_, arith, _&&_, false, List, _∷_, [], subst, T, eqb}
+use Rattle.prelude.proofs.Kit.{eqb→eq, ltb→lt, length, getD, set, length-append}
+use lib.Dec.{lit≤}
 use Rattle.prelude.proofs.Choices.{parts, joined, one}
 use Rattle.labels.specs.Addresses.{hosts}
 use Rattle.labels.proofs.Below.{or-l}

@@ -1,10 +1,7 @@
 -- A map of keys has just the keys that its test passes, and no other bit.
-use Prim.Native.Nat.{ℕ, zero, suc, _+_, _*_, _/_, _%_, _^_, _<_}
-use native.Mathlib.Nat.{not-suc-le-zero, le-of-suc-le-suc, pow-suc}
-use native.Mathlib.Omega.{arith}
-use mathlib.Core.Bool.{Bool, true, false}
-use mathlib.Core.Path.{_≡_, sym, ap, _∙_, subst}
-use lib.Dec.{eqb}
+use Rattle.prelude.proofs.Kit.{ℕ, _<_, _+_, suc, _^_, zero, _*_, _%_, _/_, le-of-suc-le-suc, not-suc-le-zero, arith, true, Bool, false, _≡_}
+use Rattle.prelude.proofs.Kit.{sym, _∙_, ap, subst, eqb}
+use native.Mathlib.Nat.{pow-suc}
 use Rattle.prelude.specs.Choice.{branch}
 use Rattle.prelude.proofs.Choices.{one}
 use Rattle.prelude.proofs.Bits.{half-bit}

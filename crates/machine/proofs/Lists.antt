@@ -1,9 +1,6 @@
 -- What holds of each element of a list.
-use Prim.Native.Nat.{ℕ, zero, suc, _<_, suc-le-suc}
-use native.Mathlib.Nat.{zero-lt-suc}
-use mathlib.Core.Bool.{Bool}
-use mathlib.Core.List.{List, [], _∷_, _++_, map}
-use lib.ListN.{length, getD, take, drop, set}
+use Rattle.prelude.proofs.Kit.{ℕ, _<_, suc, zero, zero-lt-suc, Bool, List, _∷_, [], _++_, map, length, take, drop, getD, set}
+use Prim.Native.Nat.{suc-le-suc}
 use Rattle.prelude.specs.Choice.{keep}
 use Rattle.prelude.proofs.Choices.{one}
 

@@ -1,13 +1,7 @@
 -- The general theorem, for every observer that has the laws: the run of a list of records looks to it like the run of the events that it
 -- sees of them.
-use Prim.Native.Nat.{ℕ, _≤_}
-use mathlib.Core.Bool.{_&&_}
-use mathlib.Core.List.{List, [], _∷_, _++_, append-nil, append-assoc}
-use mathlib.Core.Path.{_≡_, refl, sym, ap, ap₂, _∙_, subst}
-use lib.Dec.{T, eqb}
-use store.Enc.{and-r}
-use lib.ListN.{length}
-use lib.Pow.{areBytes}
+use Rattle.prelude.proofs.Kit.{ℕ, _≤_, _&&_, List, _∷_, [], _++_, append-assoc, append-nil, _≡_, sym, _∙_, refl, ap, subst, ap₂, T, eqb}
+use Rattle.prelude.proofs.Kit.{length, areBytes, and-r}
 use Rattle.prelude.specs.Refusals.{accepted}
 use Rattle.prelude.specs.Choice.{branch}
 use Rattle.prelude.proofs.Choices.{one, two}

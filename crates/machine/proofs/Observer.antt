@@ -1,13 +1,6 @@
 -- An observer as data: what it sees of sessions, records and requests, and the laws that a policy's tests must give it. Secrecy is one
 -- instance. States that agree are those that the observer cannot tell apart.
-use Prim.Native.Nat.{ℕ, _<_}
-use native.Mathlib.Decide.{ℕ-discrete}
-use native.Mathlib.Omega.{arith}
-use mathlib.Core.Bool.{Bool, not}
-use mathlib.Core.List.{List, _++_, map}
-use mathlib.Core.Path.{_≡_, refl, sym, ap, _∙_, subst}
-use lib.Dec.{T, T-not}
-use lib.ListN.{length}
+use Rattle.prelude.proofs.Kit.{ℕ, _<_, arith, Bool, not, List, _++_, map, _≡_, sym, _∙_, refl, ap, subst, T, T-not, length, ℕ-discrete}
 use Rattle.prelude.specs.Choice.{keep}
 use Rattle.prelude.proofs.Choices.{keep-append, map-append}
 use Rattle.labels.specs.Addresses.{hosts}

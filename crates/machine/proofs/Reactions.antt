@@ -1,12 +1,6 @@
 -- What an observer sees of one event: an event that it does not see changes nothing visible, and an event that it sees does the same to
 -- states that agree, whatever unseen cookies it brings.
-use Prim.Native.Nat.{ℕ, _<_}
-use native.Mathlib.Omega.{arith}
-use mathlib.Core.Bool.{Bool, not, _&&_}
-use mathlib.Core.List.{List, [], _∷_}
-use mathlib.Core.Path.{_≡_, refl, ap, subst}
-use lib.Dec.{T, eqb}
-use lib.ListN.{length}
+use Rattle.prelude.proofs.Kit.{ℕ, _<_, arith, _&&_, Bool, not, List, _∷_, [], _≡_, refl, ap, subst, T, eqb, length}
 use Rattle.prelude.specs.Choice.{keep}
 use Rattle.prelude.proofs.Choices.{parts, one, two}
 use Rattle.labels.specs.Addresses.{hosts}

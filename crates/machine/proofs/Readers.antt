@@ -1,9 +1,6 @@
 -- The observer of secrecy: a set of endpoints sees what has a reader in it. The laws of an observer, one for each condition of the policy's
 -- tests that speaks of readers.
-use Prim.Native.Nat.{ℕ, _<_}
-use mathlib.Core.Bool.{Bool, true, false, not, _&&_, _||_}
-use mathlib.Core.List.{List}
-use lib.Dec.{T, ltb, ltb→lt}
+use Rattle.prelude.proofs.Kit.{ℕ, _<_, true, _&&_, Bool, false, not, _||_, List, T, ltb, ltb→lt}
 use Rattle.prelude.proofs.Choices.{parts}
 use Rattle.labels.specs.Membership.{endpoints}
 use Rattle.labels.specs.Sets.{holds, within, meets}

@@ -1,5 +1,5 @@
 -- A refusal changes nothing, and no call changes the output buffer past the bytes that it counts.
-use borrow.Author.Tests.{ne-eqb}
+use Rattle.prelude.proofs.Kit.{ne-eqb}
 use Rattle.prelude.specs.Refusals.{accepted}
 use Rattle.prelude.specs.Choice.{branch}
 use Rattle.records.specs.declared.Direction.the-variants.{Request}

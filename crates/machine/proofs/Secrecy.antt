@@ -1,12 +1,7 @@
 -- Demand 3: the general theorem at the observer that is a set of readers, and the runs under a policy or a script table that is refused.
-use Prim.Native.Nat.{ℕ}
-use mathlib.Core.Bool.{Bool, true, false, not, _&&_}
-use mathlib.Core.List.{List, [], _∷_, _++_, map}
-use mathlib.Core.Logic.{⊎-elim}
-use mathlib.Core.Path.{_≡_, refl, sym, ap, ap₂, _∙_, subst}
-use lib.Dec.{T, eqb, eqb→eq, T-not, not-T}
-use lib.ListN.{length, length-replicate}
-use lib.Pow.{areBytes}
+use Rattle.prelude.proofs.Kit.{ℕ, true, _&&_, Bool, false, not, List, _∷_, [], _++_, map, ⊎-elim, _≡_, sym, _∙_, refl, ap, subst, ap₂, T}
+use Rattle.prelude.proofs.Kit.{eqb, eqb→eq, T-not, not-T, length, areBytes}
+use lib.ListN.{length-replicate}
 use Rattle.prelude.specs.Refusals.{accepted}
 use Rattle.prelude.specs.Choice.{branch, keep}
 use Rattle.prelude.proofs.Choices.{either, branch-true, branch-false}

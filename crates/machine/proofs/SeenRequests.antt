@@ -1,13 +1,7 @@
 -- A request looks the same to an observer from states that agree, and of one that it does not see there is no observation.
-use Prim.Native.Nat.{ℕ, zero, suc, _<_}
-use native.Mathlib.Omega.{arith}
-use mathlib.Core.Bool.{Bool, true, false, not, _&&_, and-comm}
-use mathlib.Core.List.{List, [], _∷_, map}
-use mathlib.Core.Logic.{⊎-elim}
-use mathlib.Core.Path.{_≡_, refl, sym, ap, ap₂, _∙_}
-use lib.Dec.{T, eqb}
-use lib.ListN.{getD}
-use store.Enc.{and-r}
+use Rattle.prelude.proofs.Kit.{ℕ, _<_, suc, zero, arith, true, _&&_, Bool, false, not, List, _∷_, [], map, ⊎-elim, _≡_, sym, _∙_, refl, ap}
+use Rattle.prelude.proofs.Kit.{ap₂, T, eqb, getD, and-r}
+use mathlib.Core.Bool.{and-comm}
 use Rattle.prelude.specs.Choice.{branch, keep}
 use Rattle.prelude.proofs.Choices.{either, and-alike, one, two, branch-false, keep-one, keep-none}
 use Rattle.records.specs.declared.Record.{Record}

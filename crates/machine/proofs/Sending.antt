@@ -1,14 +1,8 @@
 -- Every request that a call sends is carriable, and no call sends more than there is room for, so the counted bytes read back as the
 -- requests sent.
-use Prim.Native.Nat.{ℕ, _*_, _^_, _≤_, _<_}
-use native.Mathlib.Nat.{zero-lt-suc, one-le-pow, mul-le-mul-right, le-trans}
-use native.Mathlib.Omega.{arith}
-use mathlib.Core.List.{List, [], _∷_, map}
-use mathlib.Core.Logic.{⊎-elim}
-use mathlib.Core.Path.{_≡_, refl}
-use lib.Dec.{T, ltb, eqb, ltb→lt, eqb→eq}
-use lib.ListN.{length}
-use lib.Pow.{areBytes}
+use Rattle.prelude.proofs.Kit.{ℕ, _≤_, _<_, _^_, _*_, zero-lt-suc, arith, List, _∷_, [], map, ⊎-elim, _≡_, refl, T, eqb, ltb, eqb→eq}
+use Rattle.prelude.proofs.Kit.{ltb→lt, length, areBytes}
+use native.Mathlib.Nat.{one-le-pow, mul-le-mul-right, le-trans}
 use Rattle.prelude.specs.Choice.{branch}
 use Rattle.prelude.proofs.Choices.{parts, one}
 use Rattle.labels.proofs.Below.{or-cases}

@@ -1,13 +1,7 @@
 -- Sound states word by word, with what holds of each cookie value besides: the empty state, and states after a cookie or a connection was set.
-use Prim.Native.Nat.{ℕ, _+_, _^_, _<_}
-use native.Mathlib.Decide.{ℕ-discrete}
-use native.Mathlib.Omega.{arith}
-use mathlib.Core.Bool.{Bool, not, _&&_, _||_}
-use mathlib.Core.List.{List}
-use mathlib.Core.Logic.{⊎-elim}
-use mathlib.Core.Path.{_≡_, _∙_}
-use lib.Dec.{T, ltb, eqb, ltb→lt, lt→ltb, eqb→eq, T-not}
-use lib.ListN.{length, getD, length-replicate, getD-replicate}
+use Rattle.prelude.proofs.Kit.{ℕ, _<_, _+_, _^_, arith, _&&_, Bool, not, _||_, List, ⊎-elim, _≡_, _∙_, T, eqb, ltb, eqb→eq, ltb→lt, T-not}
+use Rattle.prelude.proofs.Kit.{lt→ltb, length, getD, ℕ-discrete}
+use lib.ListN.{length-replicate, getD-replicate}
 use lib.Ieee.Fits.{eq→eqb}
 use Rattle.prelude.proofs.Choices.{parts, joined}
 use Rattle.labels.specs.Addresses.{hosts}

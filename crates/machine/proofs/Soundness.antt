@@ -1,5 +1,5 @@
 -- Every record keeps the state sound, and the empty state is sound.
-use lib.Dec.{T}
+use Rattle.prelude.proofs.Kit.{T}
 use Rattle.machine.specs.Session.{emptyState, sound, Effects}
 use Rattle.machine.specs.Scripts.{stopped}
 use Rattle.machine.specs.Machine.{feed, perform}

@@ -1,14 +1,7 @@
 -- What stands in the state after a cookie or a connection was set: the new there, the old elsewhere.
-use Prim.Native.Nat.{ℕ, _+_, _<_}
-use native.Mathlib.Decide.{ℕ-discrete}
-use native.Mathlib.Omega.{arith}
-use mathlib.Core.Bool.{Bool, true, _||_}
-use mathlib.Core.List.{List}
-use mathlib.Core.Path.{_≡_, refl, sym, ap, _∙_, subst}
-use lib.Dec.{eqb}
-use lib.ListN.{length, set, length-set}
+use Rattle.prelude.proofs.Kit.{ℕ, _<_, _+_, arith, true, Bool, _||_, List, _≡_, sym, _∙_, refl, ap, subst, ne-eqb, eq-eqb, eqb, length, set}
+use Rattle.prelude.proofs.Kit.{length-set, ℕ-discrete}
 use lib.Seq.{getD-set-same, getD-set-other}
-use borrow.Author.Tests.{eq-eqb, ne-eqb}
 use Rattle.labels.specs.Addresses.{hosts}
 use Rattle.machine.specs.Policy.{hostKeys, connections, cookieIndex}
 use Rattle.machine.specs.Session.{presenceAt, connectionsAt, stateWords, cookieValue, presence, connectionWord, has, present, keyMap, setCookie, setConnection}

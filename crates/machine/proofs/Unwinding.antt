@@ -1,13 +1,7 @@
 -- Alike and quiet: two sides that an observer cannot tell apart, and one side that shows it nothing. Sending a request, and a script's run, are
 -- alike from states that agree where the observer sees what the script may read, and quiet where it does not.
-use Prim.Native.Nat.{ℕ, zero, suc, _+_, _<_}
-use native.Mathlib.Omega.{arith}
-use mathlib.Core.Bool.{Bool, not, _&&_}
-use mathlib.Core.List.{List, [], _++_}
-use mathlib.Core.Logic.{⊎-elim}
-use mathlib.Core.Path.{_≡_, refl, sym, ap, ap₂, _∙_, subst}
-use lib.Dec.{T, ltb, eqb, ltb→lt, T-not, not-T}
-use lib.ListN.{length, set}
+use Rattle.prelude.proofs.Kit.{ℕ, _<_, _+_, suc, zero, arith, _&&_, Bool, not, List, [], _++_, ⊎-elim, _≡_, sym, _∙_, refl, ap, subst, ap₂}
+use Rattle.prelude.proofs.Kit.{T, eqb, ltb, ltb→lt, T-not, not-T, length, set}
 use Rattle.prelude.specs.Choice.{keep}
 use Rattle.prelude.proofs.Choices.{parts, either, and-alike, one, two}
 use Rattle.machine.specs.Policy.{hostKeys, connections, cookieIndex, urlHost, isUrl, isConnection, mayRead, mayWrite, maySend}

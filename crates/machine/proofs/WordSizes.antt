@@ -1,16 +1,8 @@
 -- The words of the state stay below 2^32: those of a sound state do where its cookie values do, and no value of a record or script is larger.
-use Prim.Native.Nat.{ℕ, _+_, _-_, _*_, _^_, _<_, _≤_, pred}
+use Rattle.prelude.proofs.Kit.{ℕ, _≤_, _<_, _+_, _-_, _^_, _*_, pred, zero-lt-suc, arith, _||_, List, _∷_, [], ⊎-elim, _≡_, ap, T, eqb, ltb}
+use Rattle.prelude.proofs.Kit.{eqb→eq, ltb→lt, lt→ltb, and-i, length, drop, getD, areBytes}
 use native.Mathlib.Decide.{decLt}
-use native.Mathlib.Nat.{zero-lt-suc, le-trans, pow-le-pow-right}
-use native.Mathlib.Omega.{arith}
-use mathlib.Core.Bool.{_||_}
-use mathlib.Core.List.{List, [], _∷_}
-use mathlib.Core.Logic.{⊎-elim}
-use mathlib.Core.Path.{_≡_, ap}
-use lib.Dec.{T, ltb, eqb, ltb→lt, lt→ltb, eqb→eq}
-use lib.ListN.{length, getD, drop}
-use lib.Pow.{areBytes}
-use lib.Ieee.Fits.{and-i}
+use native.Mathlib.Nat.{le-trans, pow-le-pow-right}
 use Rattle.prelude.specs.Refusals.{accepted}
 use Rattle.prelude.proofs.Choices.{parts}
 use Rattle.labels.proofs.Below.{or-cases}

@@ -1,12 +1,6 @@
 -- What is known of a connection on which a response or a redirect is awaited.
-use Prim.Native.Nat.{ℕ, _<_}
-use native.Mathlib.Omega.{arith}
-use mathlib.Core.Bool.{Bool, true, false, not, _&&_, _||_, and-assoc}
-use mathlib.Core.List.{List}
-use mathlib.Core.Logic.{⊎-elim}
-use mathlib.Core.Path.{_≡_, refl, sym, _∙_, subst}
-use lib.Dec.{T, T-not, eqb, ltb→lt, eqb→eq}
-use lib.ListN.{length}
+use Rattle.prelude.proofs.Kit.{ℕ, _<_, arith, true, _&&_, Bool, false, not, _||_, and-assoc, List, ⊎-elim, _≡_, sym, _∙_, refl, subst, T}
+use Rattle.prelude.proofs.Kit.{eqb, eqb→eq, ltb→lt, T-not, length}
 use Rattle.prelude.proofs.Choices.{parts}
 use Rattle.labels.proofs.Below.{or-cases}
 use Rattle.machine.specs.Policy.{connections, wellFormed}

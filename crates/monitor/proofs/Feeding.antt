@@ -1,15 +1,8 @@
 -- The answer of every call: each refusal where it is the first that applies, and the reaction to a record that can be read. How many bytes a
 -- call counts at most. And that lists are of bytes or of words, from each place of theirs.
-use Prim.Native.Nat.{ℕ, suc, _^_, _≤_, _<_}
+use Rattle.prelude.proofs.Kit.{ℕ, _≤_, _<_, suc, _^_, true, List, _∷_, [], _≡_, _∙_, ne-eqb, T, eqb, ltb, eqb→eq, T-not, lt→ltb, and-i}
+use Rattle.prelude.proofs.Kit.{take, getD, areBytes}
 use native.Mathlib.Nat.{le-trans, mul-le-mul-right}
-use mathlib.Core.Bool.{true}
-use mathlib.Core.List.{List, [], _∷_}
-use mathlib.Core.Path.{_≡_, _∙_}
-use lib.Dec.{T, T-not, ltb, eqb, lt→ltb, eqb→eq}
-use lib.ListN.{getD, take}
-use lib.Pow.{areBytes}
-use lib.Ieee.Fits.{and-i}
-use borrow.Author.Tests.{ne-eqb}
 use Rattle.prelude.specs.Choice.{branch}
 use Rattle.prelude.specs.Refusals.{accepted, firstOf}
 use Rattle.prelude.proofs.Choices.{one}

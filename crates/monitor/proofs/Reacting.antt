@@ -1,13 +1,6 @@
 -- The answers from number 6 on: each refusal where its test is the first that fails, and what is done where none does.
-use Prim.Native.Nat.{ℕ, zero, suc, _+_, _-_, _*_, _<_}
-use native.Mathlib.Nat.{zero-add}
-use native.Mathlib.Omega.{arith}
-use mathlib.Core.Bool.{true}
-use mathlib.Core.List.{List}
-use mathlib.Core.Path.{_≡_, sym, ap, _∙_}
-use lib.Dec.{T, ltb, eqb·suc-zero}
-use lib.ListN.{length, take, drop, length-drop}
-use lib.Seq.{length-take-le}
+use Rattle.prelude.proofs.Kit.{ℕ, _<_, _+_, _-_, suc, zero, _*_, zero-add, arith, true, List, _≡_, sym, _∙_, ap, T, ltb, eqb·suc-zero}
+use Rattle.prelude.proofs.Kit.{length, take, drop, length-drop, length-take-le}
 use Rattle.prelude.specs.Choice.{branch}
 use Rattle.prelude.specs.Refusals.{accepted}
 use Rattle.prelude.proofs.Refusals.{NoneOf, nth, first-is, none-applies}

@@ -1,13 +1,11 @@
 -- A map of keys as a word: its bits are the keys that pass, a key is added by "or" or, above the others, by a sum, and two maps share keys by "and".
-use Prim.Native.Nat.{ℕ, zero, suc, _+_, _*_, _/_, _%_, _^_, _<_, _≤_, min, max, suc-le-suc}
-use native.Mathlib.Nat.{zero-lt-suc, lt-trans, lt-of-le-of-lt, lt-of-lt-of-le, one-mul, pow-suc, div-one, mod-one, mod-eq-of-lt, div-eq-of-lt}
-use native.Mathlib.Numerals.{add-one}
-use native.Mathlib.Omega.{arith}
-use mathlib.Core.Bool.{Bool, true, false, _&&_, _||_}
-use mathlib.Core.Path.{_≡_, refl, sym, ap, _∙_}
-use lib.Dec.{lit<, eqb, eqb·suc-zero, eqb·zero-suc, eqb·suc-suc}
+use Rattle.prelude.proofs.Kit.{ℕ, _≤_, _<_, _+_, suc, _^_, zero, _*_, _%_, _/_, zero-lt-suc, mod-eq-of-lt, div-one, one-mul, add-one, arith}
+use Rattle.prelude.proofs.Kit.{true, _&&_, Bool, false, _||_, _≡_, sym, _∙_, refl, ap, bitOr, and-le-r, eqb, lit<, eqb·suc-zero}
+use Prim.Native.Nat.{min, max, suc-le-suc}
+use native.Mathlib.Nat.{lt-trans, lt-of-le-of-lt, lt-of-lt-of-le, pow-suc, mod-one, div-eq-of-lt}
+use lib.Dec.{eqb·zero-suc, eqb·suc-suc}
 use borrow.Author.Tests.{eqb-true, eqb-false}
-use lib.Bits.{bitAnd, and-step, and-shr, and-le-r, bitOr, or-step, or-shr}
+use lib.Bits.{bitAnd, and-step, and-shr, or-step, or-shr}
 use lib.Pow.{pow-pos, mod-pow-add, pow-lt, pow-mono}
 use mir.Val.{boolByte}
 use Rattle.prelude.specs.Choice.{branch}

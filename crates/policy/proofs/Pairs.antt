@@ -1,14 +1,8 @@
 -- Two words as one: it is a given pair just where each word is its part, and joined by "or" with others it is 0 just where all are.
-use Prim.Native.Nat.{ℕ, _+_, _*_, _<_}
-use native.Mathlib.Omega.{arith}
-use mathlib.Core.Bool.{Bool, _&&_}
-use mathlib.Core.List.{List}
-use mathlib.Core.Path.{_≡_, sym, ap, _∙_, subst}
-use lib.Bits.{bitOr, bitXor, xor-self, xor-add-and, and-le-l, and-le-r}
-use lib.Dec.{T, lit<, eqb, eqb→eq, eqb-refl}
-use lib.Ieee.Fits.{and-i}
-use lib.ListN.{getD}
-use store.Enc.{and-l, and-r}
+use Rattle.prelude.proofs.Kit.{ℕ, _<_, _+_, _*_, arith, _&&_, Bool, List, _≡_, sym, _∙_, ap, subst, bitOr, and-le-r, T, eqb, eqb→eq, lit<}
+use Rattle.prelude.proofs.Kit.{and-i, getD, and-r, and-l}
+use lib.Bits.{bitXor, xor-self, xor-add-and, and-le-l}
+use lib.Dec.{eqb-refl}
 use Rattle.prelude.proofs.Bits.{or-zero}
 use Rattle.prelude.proofs.Choices.{joined}
 use Rattle.labels.proofs.Below.{same}

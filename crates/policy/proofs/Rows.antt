@@ -1,14 +1,9 @@
 -- The rows of a policy: a test of the address settles whether one is well formed, and whether it is empty.
-use Prim.Native.Nat.{ℕ, _+_, _^_, _<_, _≤_}
-use native.Mathlib.Omega.{arith}
-use mathlib.Core.Bool.{true, false, not, _&&_, and-assoc, or-false}
-use mathlib.Core.List.{List}
-use mathlib.Core.Logic.{⊎-elim}
-use mathlib.Core.Path.{_≡_, sym, _∙_, subst}
-use lib.Dec.{T, T-not, ltb, leb, eqb, ltb→lt, leb→le, le→leb}
-use lib.ListN.{length}
-use borrow.Author.Tests.{leb-true, lt-ltb, le-ltb, eq-eqb, ne-eqb}
-use store.Enc.{and-l, and-r}
+use Rattle.prelude.proofs.Kit.{ℕ, _≤_, _<_, _+_, _^_, arith, true, _&&_, false, not, and-assoc, List, ⊎-elim, _≡_, sym, _∙_, subst, ne-eqb}
+use Rattle.prelude.proofs.Kit.{le-ltb, lt-ltb, eq-eqb, T, eqb, ltb, ltb→lt, T-not, length, and-r, and-l}
+use mathlib.Core.Bool.{or-false}
+use lib.Dec.{leb, leb→le, le→leb}
+use borrow.Author.Tests.{leb-true}
 use Rattle.prelude.proofs.Choices.{is-true}
 use Rattle.labels.specs.Membership.{endpoints, allBelow}
 use Rattle.labels.specs.Sets.{holds, within}

@@ -1,12 +1,7 @@
 -- Laws of words bit by bit.
-use Prim.Native.Nat.{ℕ, zero, suc, _/_, _%_, _^_}
-use native.Mathlib.Omega.{arith}
-use mathlib.Core.Bool.{_&&_}
-use mathlib.Core.Path.{_≡_, ap, _∙_}
-use lib.Bits.{bitOr, or-zero-l, or-add-and, and-le-r}
-use lib.Dec.{eqb, eqb·suc-zero}
+use Rattle.prelude.proofs.Kit.{ℕ, suc, _^_, zero, _%_, _/_, arith, _&&_, _≡_, _∙_, ap, ne-eqb, bitOr, and-le-r, eqb, eqb·suc-zero}
+use lib.Bits.{or-zero-l, or-add-and}
 use lib.Pow.{shr-shr}
-use borrow.Author.Tests.{ne-eqb}
 
 -- a bit of half a number is the next one of the number
 pub half-bit : (x i : ℕ) → x / 2 / 2 ^ i % 2 ≡ x / 2 ^ suc i % 2

@@ -1,11 +1,7 @@
 -- The laws of a choice, and of what a test keeps of a list.
-use mathlib.Core.Bool.{Bool, true, false, not, _&&_, true≢false, false≢true}
-use mathlib.Core.List.{List, [], _∷_, _++_, map}
+use Rattle.prelude.proofs.Kit.{true, _&&_, Bool, false, not, true≢false, false≢true, List, _∷_, [], _++_, map, _≡_, sym, _∙_, refl}
+use Rattle.prelude.proofs.Kit.{ap, T, and-i, and-r, and-l}
 use mathlib.Core.Logic.{_⊎_, inl, inr}
-use mathlib.Core.Path.{_≡_, refl, sym, ap, _∙_}
-use lib.Dec.{T}
-use lib.Ieee.Fits.{and-i}
-use store.Enc.{and-l, and-r}
 use Rattle.prelude.specs.Choice.{branch, keep}
 
 -- a test passes or fails

@@ -1,3 +1,4 @@
+pub mod Kit
 pub mod Choices
 pub mod Refusals
 pub mod Bits

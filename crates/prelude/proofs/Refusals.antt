@@ -1,11 +1,6 @@
 -- The laws of the first refusal that applies.
-use Prim.Native.Nat.{ℕ, zero, suc}
-use mathlib.Core.Bool.{Bool, true, false, not, _&&_, true≢false}
-use mathlib.Core.List.{List, [], _∷_, _++_}
-use mathlib.Core.Path.{_≡_, refl, sym, ap, subst}
-use lib.Dec.{T, ltb, eqb, eqb·suc-zero}
-use lib.ListN.{getD, take}
-use store.Enc.{and-l, and-r}
+use Rattle.prelude.proofs.Kit.{ℕ, suc, zero, true, _&&_, Bool, false, not, true≢false, List, _∷_, [], _++_, _≡_, sym, refl, ap}
+use Rattle.prelude.proofs.Kit.{subst, T, eqb, ltb, eqb·suc-zero, take, getD, and-r, and-l}
 use Rattle.prelude.specs.Choice.{branch}
 use Rattle.prelude.specs.Refusals.{accepted, Refusal, refuse, firstOf}
 

@@ -1,11 +1,5 @@
 -- A record is carriable where each of its fields is below what its width has room for. What decoding accepts is carriable.
-use Prim.Native.Nat.{ℕ, _^_, _<_}
-use mathlib.Core.Path.{_≡_}
-use mathlib.Core.Bool.{not, _&&_}
-use mathlib.Core.List.{List, [], _∷_}
-use lib.Dec.{T, ltb, lt→ltb}
-use lib.Ieee.Fits.{and-i}
-use lib.Pow.{areBytes}
+use Rattle.prelude.proofs.Kit.{ℕ, _<_, _^_, _&&_, not, List, _∷_, [], _≡_, T, ltb, lt→ltb, and-i, areBytes}
 use Rattle.prelude.specs.Refusals.{accepted}
 use Rattle.records.specs.declared.Direction.{Direction}
 use Rattle.records.specs.declared.Record.{Record}

@@ -1,15 +1,8 @@
 -- The loops over the eight keys: what remains to be done from a key on, with the laws of its first key and of the rest.
-use Prim.Native.Nat.{ℕ, zero, suc, _+_, _*_, _^_, _<_, _≤_}
-use native.Mathlib.Nat.{add-zero, zero-add, le-of-suc-le-suc, not-suc-le-zero}
-use native.Mathlib.Numerals.{add-one}
-use native.Mathlib.Omega.{arith}
-use mathlib.Core.Path.{_≡_, refl, sym, ap, _∙_}
-use mathlib.Core.Bool.{_&&_, and-true, and-assoc}
-use mathlib.Core.List.{List, [], _∷_, _++_, map, append-assoc, append-nil}
-use lib.Bits.{bitOr}
-use lib.Dec.{eqb, ltb}
-use lib.ListN.{length, getD, take, drop, set, length-set}
-use lib.Seq.{drop-cons, drop-drop, take-suc-set, take-all, sets, length-sets}
+use Rattle.prelude.proofs.Kit.{ℕ, _≤_, _<_, _+_, suc, _^_, zero, _*_, add-zero, zero-add, le-of-suc-le-suc, not-suc-le-zero, add-one, arith}
+use Rattle.prelude.proofs.Kit.{_&&_, and-assoc, and-true, List, _∷_, [], _++_, map, append-assoc, append-nil, _≡_, sym, _∙_, refl, ap}
+use Rattle.prelude.proofs.Kit.{bitOr, eqb, ltb, length, take, drop, getD, set, length-set, sets, take-all, drop-drop, drop-cons}
+use lib.Seq.{take-suc-set, length-sets}
 use Rattle.prelude.proofs.Bits.{or-zero}
 use Rattle.records.specs.Bytes.{bit, number, digits}
 use Rattle.records.specs.Layout.{keyNumbers, widths, sum, join, split, fitWidths}

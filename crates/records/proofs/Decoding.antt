@@ -1,11 +1,7 @@
 -- What decoding answers at each of its tests, and what acceptance says of them.
-use Prim.Native.Nat.{ℕ}
-use mathlib.Core.Path.{_≡_, refl}
-use mathlib.Core.Bool.{Bool, true, false, not, _||_, or-true, true≢false}
-use mathlib.Core.List.{List}
-use lib.ListN.{length, take}
-use lib.Dec.{eqb}
-use borrow.Author.Tests.{eqb-true, eq-eqb, ne-eqb, not-false}
+use Rattle.prelude.proofs.Kit.{ℕ, true, Bool, false, not, _||_, true≢false, List, _≡_, refl, ne-eqb, not-false, eq-eqb, eqb, length, take}
+use mathlib.Core.Bool.{or-true}
+use borrow.Author.Tests.{eqb-true}
 use Rattle.prelude.specs.Refusals.{accepted}
 use Rattle.prelude.proofs.Refusals.{NoneOf, nth, first-is, none-applies, none-applied}
 use Rattle.records.specs.declared.Direction.{Direction}

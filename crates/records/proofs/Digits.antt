@@ -1,14 +1,8 @@
 -- Numbers and their bytes: each is had back from the other.
-use Prim.Native.Nat.{ℕ, zero, suc, _+_, _*_, _%_, _^_, _<_}
-use native.Mathlib.Nat.{mod-one, mod-eq-of-lt, pow-succ', zero-lt-suc, one-le-pow, mul-assoc, mul-add-div-right}
-use native.Mathlib.Omega.{arith}
-use mathlib.Core.Path.{_≡_, refl, sym, ap, ap₂, _∙_}
-use mathlib.Core.List.{List, [], _∷_}
-use lib.Dec.{T, ltb, ltb→lt}
+use Rattle.prelude.proofs.Kit.{ℕ, _<_, _+_, suc, _^_, zero, _*_, _%_, zero-lt-suc, mod-eq-of-lt, arith, List, _∷_, [], _≡_, sym, _∙_, refl}
+use Rattle.prelude.proofs.Kit.{ap, ap₂, T, ltb, ltb→lt, length, areBytes, and-r, and-l}
+use native.Mathlib.Nat.{mod-one, pow-succ', one-le-pow, mul-assoc, mul-add-div-right}
 use lib.Arith.{mod-mul, digits-lt, digits-div}
-use lib.ListN.{length}
-use lib.Pow.{areBytes}
-use store.Enc.{and-l, and-r}
 use Rattle.records.specs.Bytes.{number, digits}
 
 pub length-digits : (w v : ℕ) → length (digits w v) ≡ w

@@ -1,16 +1,9 @@
 -- What encoding answers at each of its tests. No record is longer than the longest, and the code's test of the fields is the definition's.
-use Prim.Native.Nat.{ℕ, pred, _+_, _*_, _^_, _<_, _≤_}
-use native.Mathlib.Nat.{zero-add}
-use native.Mathlib.Omega.{arith}
-use mathlib.Core.Path.{_≡_, refl, sym, ap, ap₂, _∙_, subst}
-use mathlib.Core.Bool.{Bool, true, false, not, _&&_, _||_, and-assoc, and-true}
-use mathlib.Core.List.{List, [], _∷_, _++_, map}
-use lib.Bits.{bitOr}
-use lib.Dec.{T, eqb, leb, ltb, leb→le, eqb→eq}
-use lib.ListN.{length, drop}
-use lib.Seq.{sets, sets-eq}
-use store.Enc.{and-l, and-r}
-use borrow.Author.Tests.{lt-ltb, le-ltb}
+use Rattle.prelude.proofs.Kit.{ℕ, _≤_, _<_, _+_, _^_, _*_, pred, zero-add, arith, true, _&&_, Bool, false, not, _||_, and-assoc, and-true}
+use Rattle.prelude.proofs.Kit.{List, _∷_, [], _++_, map, _≡_, sym, _∙_, refl, ap, subst, ap₂, le-ltb, lt-ltb, bitOr, T, eqb, ltb, eqb→eq}
+use Rattle.prelude.proofs.Kit.{length, drop, sets, and-r, and-l}
+use lib.Dec.{leb, leb→le}
+use lib.Seq.{sets-eq}
 use Rattle.prelude.specs.Refusals.{accepted}
 use Rattle.prelude.proofs.Refusals.{first-is, none-applies}
 use Rattle.prelude.proofs.Bits.{or-zero}

@@ -1,15 +1,9 @@
 -- Values laid out by widths, and bytes taken apart by them: each is had back from the other. So are a record and its values.
-use Prim.Native.Nat.{ℕ, zero, suc, _+_, _^_, _<_, _≤_, pred}
-use native.Mathlib.Nat.{mod-eq-of-lt}
-use native.Mathlib.Omega.{arith}
-use mathlib.Core.Path.{_≡_, refl, ap, ap₂, _∙_, subst}
-use mathlib.Core.List.{List, [], _∷_, _++_, append-assoc}
-use lib.Dec.{T, ltb, ltb→lt, lt→ltb}
-use lib.ListN.{length, getD, take, drop, length-append, length-drop, take-append-drop}
-use lib.Seq.{take-at, drop-at, length-take-le}
-use lib.Pow.{areBytes}
-use lib.Ieee.Fits.{and-i}
-use store.Enc.{and-l, and-r}
+use Rattle.prelude.proofs.Kit.{ℕ, _≤_, _<_, _+_, suc, _^_, zero, pred, mod-eq-of-lt, arith, List, _∷_, [], _++_, append-assoc, _≡_, _∙_}
+use Rattle.prelude.proofs.Kit.{refl, ap, subst, ap₂, T, ltb, ltb→lt, lt→ltb, and-i, length, take, drop, getD, length-append, length-drop}
+use Rattle.prelude.proofs.Kit.{areBytes, length-take-le, and-r, and-l}
+use lib.ListN.{take-append-drop}
+use lib.Seq.{take-at, drop-at}
 use Rattle.records.specs.declared.Record.{Record}
 use Rattle.records.specs.Bytes.{number, digits}
 use Rattle.records.specs.Layout.{sum, join, split, fitWidths, values, fromValues}

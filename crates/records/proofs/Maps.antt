@@ -1,12 +1,8 @@
 -- A number that is one of a list passes the test of it, and one that is none of it fails.
-use Prim.Native.Nat.{ℕ}
-use mathlib.Core.Path.{_≡_, refl, sym}
-use mathlib.Core.Bool.{true, false, or-true}
-use mathlib.Core.List.{List, [], _∷_}
+use Rattle.prelude.proofs.Kit.{ℕ, true, false, List, _∷_, [], _≡_, sym, refl, ne-eqb, eq-eqb, eqb}
+use mathlib.Core.Bool.{or-true}
 use mathlib.Core.Logic.{inl, inr}
-use lib.Dec.{eqb}
 use types.Run.{OneOf}
-use borrow.Author.Tests.{eq-eqb, ne-eqb}
 use Rattle.records.specs.Codec.{isOneOf}
 
 pub one-of : (ks : List ℕ) (x : ℕ) → OneOf ks x → true ≡ isOneOf x ks

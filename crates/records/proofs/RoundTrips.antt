@@ -1,14 +1,9 @@
 -- What encoding writes is read back, what decoding reads is written back, and a run of records is read back whole.
-use Prim.Native.Nat.{ℕ, zero, suc, _+_, _≤_, _<_}
-use native.Mathlib.Nat.{zero-lt-suc}
-use native.Mathlib.Omega.{arith}
-use mathlib.Core.Path.{_≡_, refl, sym, ap, _∙_}
-use mathlib.Core.Bool.{false, cond, true≢false}
-use mathlib.Core.List.{List, [], _∷_, _++_, append-nil}
-use lib.Dec.{T, eqb, eqb·suc-zero, nltb→le}
-use lib.ListN.{length, take, drop, length-drop, length-append}
-use lib.Seq.{take-at, drop-at, take-nil, drop-cons, take-append-add}
-use lib.Pow.{areBytes}
+use Rattle.prelude.proofs.Kit.{ℕ, _≤_, _<_, _+_, suc, zero, zero-lt-suc, arith, false, true≢false, cond, List, _∷_, [], _++_, append-nil}
+use Rattle.prelude.proofs.Kit.{_≡_, sym, _∙_, refl, ap, T, eqb, eqb·suc-zero, length, take, drop, length-append, length-drop, areBytes}
+use Rattle.prelude.proofs.Kit.{drop-cons}
+use lib.Dec.{nltb→le}
+use lib.Seq.{take-at, drop-at, take-nil, take-append-add}
 use Rattle.prelude.specs.Choice.{branch}
 use Rattle.prelude.specs.Refusals.{accepted, firstOf}
 use Rattle.prelude.proofs.Choices.{is-true, is-false, passes}

@@ -1,13 +1,8 @@
 -- Records written one after another. Whatever they are, the counted bytes are in the buffer, and past them it is the old one.
 -- Carriable ones for which there is room are all written, so they read back.
-use Prim.Native.Nat.{ℕ, _+_, _-_, _*_, _≤_, zero-le}
-use native.Mathlib.Omega.{arith}
-use mathlib.Core.Path.{_≡_, refl, sym, ap, _∙_}
-use mathlib.Core.Bool.{Bool, true, false, not, cond}
-use mathlib.Core.List.{List, [], _∷_, _++_}
-use lib.Dec.{T, eqb, eqb→eq}
-use lib.ListN.{length, take, drop, length-append, length-drop}
-use lib.Seq.{drop-append-seam, drop-append-add, drop-at, drop-drop, length-take-le}
+use Rattle.prelude.proofs.Kit.{ℕ, _≤_, _+_, _-_, _*_, zero-le, arith, true, Bool, false, not, cond, List, _∷_, [], _++_, _≡_, sym, _∙_}
+use Rattle.prelude.proofs.Kit.{refl, ap, T, eqb, eqb→eq, length, take, drop, length-append, length-drop, length-take-le, drop-drop}
+use lib.Seq.{drop-append-seam, drop-append-add, drop-at}
 use Rattle.prelude.specs.Refusals.{accepted}
 use Rattle.prelude.proofs.Choices.{is-true}
 use Rattle.records.specs.declared.Direction.{Direction}

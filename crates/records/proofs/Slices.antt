@@ -1,12 +1,8 @@
 -- A byte and a word at a place of a slice, read and written.
-use Prim.Native.Nat.{ℕ, suc, _+_, _*_, _/_, _%_, _<_, _≤_}
-use native.Mathlib.Nat.{div-one, mod-eq-of-lt}
-use native.Mathlib.Numerals.{add-one, add-two, add-three}
-use native.Mathlib.Omega.{arith}
-use mathlib.Core.Path.{_≡_, refl}
-use mathlib.Core.List.{List}
-use lib.ListN.{length, getD, take, drop, set, drop-of-length-le}
-use lib.Seq.{take-nil, drop-cons, sets}
+use Rattle.prelude.proofs.Kit.{ℕ, _≤_, _<_, _+_, suc, _*_, _%_, _/_, mod-eq-of-lt, div-one, add-one, arith, List, _≡_, refl, length, take}
+use Rattle.prelude.proofs.Kit.{drop, getD, set, drop-of-length-le, sets, drop-cons}
+use native.Mathlib.Numerals.{add-two, add-three}
+use lib.Seq.{take-nil}
 use Rattle.records.specs.Bytes.{number, digits}
 
 module _ (l : List ℕ) (at : ℕ) where

@@ -1,10 +1,6 @@
 -- Where the fields begin: the count of ones of the key map is the number of values, and the code's sums are the layout's.
-use Prim.Native.Nat.{ℕ, _+_, _*_, _/_, _^_, _<_}
-use native.Mathlib.Nat.{div-one, div-eq-of-lt}
-use native.Mathlib.Omega.{arith}
-use mathlib.Core.Path.{_≡_, sym, ap, _∙_}
-use mathlib.Core.List.{[], _∷_, map}
-use lib.ListN.{take}
+use Rattle.prelude.proofs.Kit.{ℕ, _<_, _+_, _^_, _*_, _/_, div-one, arith, _∷_, [], map, _≡_, sym, _∙_, ap, take}
+use native.Mathlib.Nat.{div-eq-of-lt}
 use lib.Count.{ones, ones-step}
 use lib.Pow.{shr-shr}
 use Rattle.records.specs.Bytes.{bit}

@@ -1,10 +1,6 @@
 -- The fields of a record that is taken apart: each is read at its place.
-use Prim.Native.Nat.{ℕ, zero, suc, _*_}
-use native.Mathlib.Nat.{one-mul}
-use mathlib.Core.Path.{_≡_, refl, sym, ap, ap₂, _∙_, subst}
-use mathlib.Core.List.{List, [], _∷_}
-use lib.ListN.{length, getD, take, drop}
-use lib.Seq.{drop-drop}
+use Rattle.prelude.proofs.Kit.{ℕ, suc, zero, _*_, one-mul, List, _∷_, [], _≡_, sym, _∙_, refl, ap, subst, ap₂, length, take, drop, getD}
+use Rattle.prelude.proofs.Kit.{drop-drop}
 use Rattle.records.specs.declared.Record.{Record}
 use Rattle.records.specs.Bytes.{bit, number}
 use Rattle.records.specs.Layout.{widths, sum, split, fromValues}

@@ -1,11 +1,7 @@
 -- Fields written one after another are written as one list of bytes.
-use Prim.Native.Nat.{ℕ, pred, _+_, _*_, _≤_}
-use native.Mathlib.Nat.{one-mul, zero-add, add-assoc}
-use native.Mathlib.Omega.{arith}
-use mathlib.Core.Path.{_≡_, refl, sym, ap, _∙_, subst}
-use mathlib.Core.List.{List, [], _∷_, _++_, append-nil, append-assoc}
-use lib.ListN.{length, take}
-use lib.Seq.{sets}
+use Rattle.prelude.proofs.Kit.{ℕ, _≤_, _+_, _*_, pred, zero-add, one-mul, arith, List, _∷_, [], _++_, append-assoc, append-nil, _≡_, sym}
+use Rattle.prelude.proofs.Kit.{_∙_, refl, ap, subst, length, take, sets}
+use native.Mathlib.Nat.{add-assoc}
 use Rattle.records.specs.declared.Record.{Record}
 use Rattle.records.specs.Bytes.{bit, digits}
 use Rattle.records.specs.Layout.{widths, sum, join, values, size}

@@ -1,11 +1,7 @@
 -- What a step of the definition leaves, for each way in which its code goes on or ends.
-use Prim.Native.Nat.{ℕ, suc, _+_, _*_, _<_, _≤_}
-use native.Mathlib.Nat.{add-zero}
-use mathlib.Core.Bool.{Bool, true, false, _&&_, false≢true}
-use mathlib.Core.List.{List}
-use mathlib.Core.Path.{_≡_, refl, sym, ap, _∙_}
-use borrow.Author.Tests.{ltb-true, lt-ltb, le-ltb, ne-eqb}
-use lib.ListN.{getD, set}
+use Rattle.prelude.proofs.Kit.{ℕ, _≤_, _<_, _+_, suc, _*_, add-zero, true, _&&_, Bool, false, false≢true, List, _≡_, sym, _∙_, refl, ap}
+use Rattle.prelude.proofs.Kit.{ne-eqb, le-ltb, lt-ltb, getD, set}
+use borrow.Author.Tests.{ltb-true}
 use Rattle.prelude.specs.Choice.{branch}
 use Rattle.prelude.proofs.Choices.{chosen, left-out}
 use Rattle.machine.specs.Policy.{hostKeys, cookieIndex, urlHost, isUrl, isConnection, mayRead, mayWrite, maySend}

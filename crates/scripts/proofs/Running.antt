@@ -1,11 +1,6 @@
 -- The loop of the interpreter: what the run has done, and what the definition does from here on, are what it does in all.
-use Prim.Native.Nat.{ℕ, zero, suc, _+_, _-_, _<_, _≤_}
-use native.Mathlib.Nat.{add-zero}
-use native.Mathlib.Omega.{arith}
-use mathlib.Core.List.{List, [], _∷_, _++_}
-use mathlib.Core.Path.{_≡_, refl, sym, ap, _∙_}
-use lib.ListN.{length}
-use borrow.Author.Tests.{lt-ltb, le-ltb}
+use Rattle.prelude.proofs.Kit.{ℕ, _≤_, _<_, _+_, _-_, suc, zero, add-zero, arith, List, _∷_, [], _++_, _≡_, sym, _∙_, refl, ap, le-ltb}
+use Rattle.prelude.proofs.Kit.{lt-ltb, length}
 use Rattle.prelude.specs.Choice.{branch}
 use Rattle.records.specs.declared.Record.{Record}
 use Rattle.machine.specs.Session.{stateWords, Effects}

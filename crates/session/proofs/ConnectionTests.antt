@@ -1,12 +1,8 @@
 -- The word of a connection test by test: the shapes as ranges of words, and the tests of a word that is not free, in the code's order.
-use Prim.Native.Nat.{ℕ, _/_, _%_, _<_}
-use native.Mathlib.Omega.{arith}
-use mathlib.Core.Bool.{Bool, true, false, _&&_, _||_, and-assoc, and-or-distrib-left}
-use mathlib.Core.List.{List}
-use mathlib.Core.Path.{_≡_}
-use lib.Dec.{T, ltb, leb, eqb, ltb→lt, lt→ltb, leb→le, le→leb, eqb→eq}
-use lib.Ieee.Fits.{and-i}
-use borrow.Author.Tests.{eq-eqb, ne-eqb, lt-ltb}
+use Rattle.prelude.proofs.Kit.{ℕ, _<_, _%_, _/_, arith, true, _&&_, Bool, false, _||_, and-assoc, List, _≡_, ne-eqb, lt-ltb, eq-eqb, T, eqb}
+use Rattle.prelude.proofs.Kit.{ltb, eqb→eq, ltb→lt, lt→ltb, and-i}
+use mathlib.Core.Bool.{and-or-distrib-left}
+use lib.Dec.{leb, leb→le, le→leb}
 use Rattle.prelude.proofs.Choices.{parts, joined}
 use Rattle.labels.proofs.Below.{same}
 use Rattle.machine.specs.Policy.{urlRows, isUrl, fits}

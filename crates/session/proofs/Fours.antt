@@ -1,10 +1,5 @@
 -- Connections four at a time: four words that are 0, and that free connections are sound.
-use Prim.Native.Nat.{ℕ, _+_}
-use native.Mathlib.Omega.{arith}
-use mathlib.Core.Bool.{Bool, true, _&&_, and-assoc}
-use mathlib.Core.List.{List}
-use mathlib.Core.Path.{_≡_, sym, subst}
-use lib.Dec.{T, eqb, eqb→eq}
+use Rattle.prelude.proofs.Kit.{ℕ, _+_, arith, true, _&&_, Bool, and-assoc, List, _≡_, sym, subst, T, eqb, eqb→eq}
 use Rattle.prelude.proofs.Choices.{is-true}
 use Rattle.labels.specs.Membership.{allBelow}
 use Rattle.labels.proofs.Below.{all-at, all-of, four}

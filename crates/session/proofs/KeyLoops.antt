@@ -1,12 +1,7 @@
 -- The loops over a host's eight keys: what remains to be done from a key on.
-use Prim.Native.Nat.{ℕ, suc, _+_, _<_, _≤_}
-use native.Mathlib.Numerals.{add-one}
-use native.Mathlib.Omega.{arith}
-use mathlib.Core.Bool.{Bool, true, false}
-use mathlib.Core.List.{List, _∷_, _++_, map, append-assoc, append-nil}
-use mathlib.Core.Path.{_≡_, refl, sym, ap, _∙_}
-use lib.ListN.{length, getD, take, drop, set, length-set}
-use lib.Seq.{take-suc-set, take-all}
+use Rattle.prelude.proofs.Kit.{ℕ, _≤_, _<_, _+_, suc, add-one, arith, true, Bool, false, List, _∷_, _++_, map, append-assoc, append-nil}
+use Rattle.prelude.proofs.Kit.{_≡_, sym, _∙_, refl, ap, length, take, drop, getD, set, length-set, take-all}
+use lib.Seq.{take-suc-set}
 use Rattle.prelude.specs.Choice.{branch, keep}
 use Rattle.records.specs.Layout.{keyNumbers}
 use Rattle.records.proofs.Cookies.{keys-from}

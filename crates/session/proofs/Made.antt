@@ -1,10 +1,5 @@
 -- The fields that the code gives a request are those of the definition.
-use Prim.Native.Nat.{ℕ, _%_, _<_}
-use native.Mathlib.Nat.{mod-eq-of-lt}
-use mathlib.Core.Bool.{Bool}
-use mathlib.Core.List.{List, [], _∷_, map}
-use mathlib.Core.Path.{_≡_, refl, ap}
-use lib.Dec.{lit<}
+use Rattle.prelude.proofs.Kit.{ℕ, _<_, _%_, mod-eq-of-lt, Bool, List, _∷_, [], map, _≡_, refl, ap, lit<}
 use Rattle.prelude.specs.Choice.{branch}
 use Rattle.records.specs.Layout.{keyNumbers}
 use Rattle.machine.specs.Policy.{hostKeys, cookieIndex, urlHost}

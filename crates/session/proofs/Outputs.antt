@@ -1,13 +1,10 @@
 -- Requests written one after another into an output: what a lent part of the buffer makes of the whole, and that they make the bytes of
 -- a run of records.
-use Prim.Native.Nat.{ℕ, _+_, _-_, _≤_}
-use native.Mathlib.Nat.{add-zero, zero-add, add-assoc}
-use native.Mathlib.Omega.{arith}
-use mathlib.Core.List.{List, [], _∷_, _++_, append-nil, append-assoc}
-use mathlib.Core.Path.{_≡_, sym, ap, _∙_}
+use Rattle.prelude.proofs.Kit.{ℕ, _≤_, _+_, _-_, add-zero, zero-add, arith, List, _∷_, [], _++_, append-assoc, append-nil, _≡_, sym, _∙_}
+use Rattle.prelude.proofs.Kit.{ap, length, take, drop, length-append, length-drop, drop-of-length-le, take-all}
+use native.Mathlib.Nat.{add-assoc}
 use borrow.Rule.Slice.PartMut.{putMid}
-use lib.ListN.{length, take, drop, length-append, length-drop, drop-of-length-le}
-use lib.Seq.{take-all, take-append-seam, drop-append-seam}
+use lib.Seq.{take-append-seam, drop-append-seam}
 use Rattle.prelude.specs.Refusals.{accepted}
 use Rattle.records.specs.declared.Direction.the-variants.{Request}
 use Rattle.records.specs.declared.Record.{Record}

@@ -1,18 +1,9 @@
 -- Strays as they are gathered: a value joined to them leaves none just where none were left and it is 0. So the two tests at the end are
 -- the hosts' own.
-use Prim.Native.Nat.{ℕ, zero, suc, _+_, _<_}
-use native.Mathlib.Nat.{not-suc-le-zero, le-of-suc-le-suc}
-use native.Mathlib.Numerals.{add-one}
-use native.Mathlib.Omega.{arith}
-use mathlib.Core.Bool.{Bool, true, _&&_, and-assoc, and-true}
-use mathlib.Core.List.{List, [], _∷_}
-use mathlib.Core.Path.{_≡_}
-use lib.Bits.{bitOr, or-lt, or-add-and, and-le-l, and-le-r}
-use lib.Dec.{ltb, eqb, ltb→lt, lt→ltb}
-use lib.Ieee.Fits.{and-i}
-use lib.ListN.{length, getD, set, drop, drop-of-length-le}
-use lib.Seq.{drop-cons}
-use store.Enc.{and-l, and-r}
+use Rattle.prelude.proofs.Kit.{ℕ, _<_, _+_, suc, zero, le-of-suc-le-suc, not-suc-le-zero, add-one, arith, true, _&&_, Bool, and-assoc}
+use Rattle.prelude.proofs.Kit.{and-true, List, _∷_, [], _≡_, bitOr, and-le-r, eqb, ltb, ltb→lt, lt→ltb, and-i, length, drop, getD, set}
+use Rattle.prelude.proofs.Kit.{drop-of-length-le, drop-cons, and-r, and-l}
+use lib.Bits.{or-lt, or-add-and, and-le-l}
 use Rattle.prelude.proofs.Bits.{or-zero}
 use Rattle.prelude.proofs.Choices.{joined}
 use Rattle.labels.specs.Membership.{allBelow}

@@ -1,13 +1,7 @@
 -- The digits of a number: one below ten, else one more than a tenth of it has; and how many there can be.
-use Prim.Native.Nat.{ℕ, zero, suc, _+_, _/_, _%_, _^_, _<_, _≤_}
-use native.Mathlib.Nat.{pow-suc, div-lt-iff-lt-mul, le-of-suc-le-suc, not-suc-le-zero, zero-lt-suc}
-use native.Mathlib.Omega.{arith}
-use mathlib.Core.Path.{_≡_, sym, ap, _∙_}
-use mathlib.Core.Bool.{Bool, true, false, cond}
-use mathlib.Core.List.{List, [], _∷_, _++_}
-use lib.Dec.{ltb}
-use lib.ListN.{length, length-append}
-use borrow.Author.Tests.{lt-ltb, le-ltb}
+use Rattle.prelude.proofs.Kit.{ℕ, _≤_, _<_, _+_, suc, _^_, zero, _%_, _/_, zero-lt-suc, le-of-suc-le-suc, not-suc-le-zero, arith, true}
+use Rattle.prelude.proofs.Kit.{Bool, false, cond, List, _∷_, [], _++_, _≡_, sym, _∙_, ap, le-ltb, lt-ltb, ltb, length, length-append}
+use native.Mathlib.Nat.{pow-suc, div-lt-iff-lt-mul}
 use Rattle.transcript.specs.Text.{digit, decimalWithin, decimal}
 
 -- more digits than are enough change nothing

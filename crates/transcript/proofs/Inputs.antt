@@ -1,11 +1,5 @@
 -- What a caller may take from the answers about an input: its parts are there, a record is within it, and one more record is counted.
-use Prim.Native.Nat.{ℕ, _+_, _-_, _≤_}
-use native.Mathlib.Omega.{arith}
-use mathlib.Core.Path.{_≡_, refl}
-use mathlib.Core.Bool.{Bool, true, false, cond}
-use mathlib.Core.List.{List}
-use lib.Dec.{ltb, eqb}
-use lib.ListN.{length, getD}
+use Rattle.prelude.proofs.Kit.{ℕ, _≤_, _+_, _-_, arith, true, Bool, false, cond, List, _≡_, refl, eqb, ltb, length, getD}
 use borrow.Author.Tests.{ltb-true, ltb-false}
 use Rattle.prelude.specs.Refusals.{accepted}
 use Rattle.transcript.specs.declared.counts.Counts.{Counts}

@@ -1,10 +1,7 @@
 -- The loop over the requests: the lines that are left to write make the whole, and there is room for them.
-use Prim.Native.Nat.{ℕ, _+_, _-_, _*_, _<_, _≤_}
-use native.Mathlib.Omega.{arith}
-use mathlib.Core.Path.{_≡_, refl, sym, ap, _∙_}
-use mathlib.Core.List.{List, [], _∷_, _++_}
-use lib.ListN.{length, take, drop, length-append, length-drop}
-use lib.Seq.{drop-drop, take-all, sets, length-sets}
+use Rattle.prelude.proofs.Kit.{ℕ, _≤_, _<_, _+_, _-_, _*_, arith, List, _∷_, [], _++_, _≡_, sym, _∙_, refl, ap, length, take, drop}
+use Rattle.prelude.proofs.Kit.{length-append, length-drop, sets, take-all, drop-drop}
+use lib.Seq.{length-sets}
 use Rattle.prelude.specs.Refusals.{accepted}
 use Rattle.records.specs.declared.Decoded.{Decoded}
 use Rattle.records.specs.Codec.{firstRecord}

@@ -1,13 +1,8 @@
 -- The requests at the front of some bytes, one by one: where the first is accepted its line comes first, and it has at least 3 bytes.
-use Prim.Native.Nat.{ℕ, zero, suc, _+_, _<_, _≤_}
-use native.Mathlib.Decide.{ℕ-discrete}
-use native.Mathlib.Omega.{arith}
-use mathlib.Core.Path.{_≡_, refl, sym, ap, _∙_, subst}
-use mathlib.Core.Bool.{Bool, true, false, true≢false, _||_}
-use mathlib.Core.List.{List, [], _∷_, _++_}
-use lib.Dec.{eqb}
-use lib.ListN.{length, take, drop, length-append, length-drop, take-append-drop}
-use borrow.Author.Tests.{eqb-true, ne-eqb}
+use Rattle.prelude.proofs.Kit.{ℕ, _≤_, _<_, _+_, suc, zero, arith, true, Bool, false, _||_, true≢false, List, _∷_, [], _++_, _≡_, sym, _∙_}
+use Rattle.prelude.proofs.Kit.{refl, ap, subst, ne-eqb, eqb, length, take, drop, length-append, length-drop, ℕ-discrete}
+use lib.ListN.{take-append-drop}
+use borrow.Author.Tests.{eqb-true}
 use Rattle.prelude.specs.Refusals.{accepted}
 use Rattle.records.specs.declared.Direction.the-variants.{Request}
 use Rattle.records.specs.declared.Record.{Record}

@@ -1,11 +1,7 @@
 -- The loop over the policy's words: what is left to read from a word on makes the whole.
-use Prim.Native.Nat.{ℕ, suc, _+_, _-_, _*_, _<_, _≤_}
-use native.Mathlib.Numerals.{add-one}
-use native.Mathlib.Omega.{arith}
-use mathlib.Core.Path.{_≡_, refl, sym, ap, _∙_}
-use mathlib.Core.List.{List, [], _∷_, _++_, append-assoc, append-nil}
-use lib.ListN.{length, take, drop, set, length-set}
-use lib.Seq.{drop-drop, take-suc-set, take-all}
+use Rattle.prelude.proofs.Kit.{ℕ, _≤_, _<_, _+_, _-_, suc, _*_, add-one, arith, List, _∷_, [], _++_, append-assoc, append-nil, _≡_, sym}
+use Rattle.prelude.proofs.Kit.{_∙_, refl, ap, length, take, drop, set, length-set, take-all, drop-drop}
+use lib.Seq.{take-suc-set}
 use Rattle.records.specs.Bytes.{number}
 use Rattle.transcript.specs.Input.{wordsOf}
 

@@ -1,12 +1,7 @@
 -- Pieces written one after another are written as one, and what is written from place 0 on is at the front.
-use Prim.Native.Nat.{ℕ, suc, _+_, _<_, _≤_}
-use native.Mathlib.Nat.{zero-add}
-use native.Mathlib.Numerals.{add-one}
-use native.Mathlib.Omega.{arith}
-use mathlib.Core.Path.{_≡_, refl, ap, _∙_}
-use mathlib.Core.List.{List, [], _∷_, _++_}
-use lib.ListN.{length, getD, drop, set, length-append}
-use lib.Seq.{drop-cons, drop-length, sets, length-sets, sets-eq}
+use Rattle.prelude.proofs.Kit.{ℕ, _≤_, _<_, _+_, suc, zero-add, add-one, arith, List, _∷_, [], _++_, _≡_, _∙_, refl, ap, length, drop, getD}
+use Rattle.prelude.proofs.Kit.{set, length-append, sets, drop-cons}
+use lib.Seq.{drop-length, length-sets, sets-eq}
 use Rattle.records.proofs.Cookies.{sets-append}
 use Rattle.transcript.specs.Text.{AtFront, Wrote}
 

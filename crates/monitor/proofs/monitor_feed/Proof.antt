@@ -1,12 +1,9 @@
 -- `monitor_feed` meets its contract: what `feed` leaves, with a count of bytes that fits 32 bits.
-use denote.Ref.{now}
-use lib.Dec.{lit<}
-use mathlib.Core.Path.{ap}
+use Rattle.prelude.proofs.Kit.{ap, needs, now, lit<}
 use native.Mathlib.Nat.{lt-of-le-of-lt}
 use Rattle.records.proofs.RoundTrips.{longest-is}
 use Rattle.machine.specs.Machine.{Fed}
 use Rattle.monitor.proofs.Feeding.{bytes-are, words-are, bytes-small}
-use borrow.Author.Needs.{needs}
 use Rattle.monitor.proofs.monitor_feed.Statement.{statement}
 use Rattle.monitor.proofs.monitor_feed.Tie as tie
 

@@ -1,6 +1,5 @@
 -- `monitor_edges::output` is safe and ends: its indices stay within what it reads and writes.
-use borrow.Author.Needs.{needs}
-use Prim.Native.Nat.{_≤_, _-_}
+use Rattle.prelude.proofs.Kit.{_≤_, _-_, needs}
 use Rattle.monitor_edges.proofs.output.Statement.{statement}
 use Rattle.monitor_edges.proofs.output.Tie as tie
 

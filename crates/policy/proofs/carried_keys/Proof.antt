@@ -1,12 +1,6 @@
 -- `carried_keys` meets its contract: the keys so far are the map below the key.
-use Prim.Native.Nat.{ℕ, _+_, _-_, _≤_, _<_, zero-le}
-use borrow.Author.Needs.{needs}
-use denote.Ref.{now}
-use mathlib.Core.List.{List}
-use mathlib.Core.Path.{_≡_, refl, ap, _∙_}
+use Rattle.prelude.proofs.Kit.{ℕ, _≤_, _<_, _+_, _-_, zero-le, arith, List, _≡_, _∙_, refl, ap, needs, now, lit<}
 use native.Mathlib.Nat.{lt-trans}
-use native.Mathlib.Omega.{arith}
-use lib.Dec.{lit<}
 use Rattle.labels.specs.Membership.{endpoints}
 use Rattle.labels.specs.Sets.{within}
 use Rattle.labels.specs.Addresses.{hosts, messageSet}

@@ -1,6 +1,5 @@
 -- `event_in` meets its contract: the set of the event endpoint is within just the sets that hold it.
-use borrow.Author.Needs.{needs}
-use denote.Ref.{now}
+use Rattle.prelude.proofs.Kit.{needs, now}
 use Rattle.labels.proofs.Endpoints.{event-within}
 use Rattle.machine.specs.Policy.{urlAddress}
 use Rattle.policy.proofs.event_in.Statement.{statement}

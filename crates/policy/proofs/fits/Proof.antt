@@ -1,5 +1,5 @@
 -- `fits` meets its contract: its tests are those of the definition.
-use borrow.Author.Needs.{needs}
+use Rattle.prelude.proofs.Kit.{needs}
 use Rattle.machine.specs.Policy.{fits}
 use Rattle.policy.proofs.fits.Statement.{statement}
 use Rattle.policy.proofs.fits.Tie as tie

@@ -1,9 +1,5 @@
 -- `is_url` meets its contract: the address settles whether a row is empty.
-use borrow.Author.Needs.{needs}
-use denote.Ref.{now}
-use mathlib.Core.Bool.{false≢true}
-use native.Mathlib.Omega.{arith}
-use Prim.Native.Nat.{_<_}
+use Rattle.prelude.proofs.Kit.{_<_, arith, false≢true, needs, now}
 use Rattle.machine.specs.Policy.{urlRows}
 use Rattle.policy.proofs.Rows.{url-beyond, url-named, url-given}
 use Rattle.policy.proofs.is_url.Statement.{statement}

@@ -1,5 +1,5 @@
 -- `load_readers` meets its contract: its tests are those of the definition.
-use borrow.Author.Needs.{needs}
+use Rattle.prelude.proofs.Kit.{needs}
 use Rattle.machine.specs.Policy.{loadReaders}
 use Rattle.policy.proofs.load_readers.Statement.{statement}
 use Rattle.policy.proofs.load_readers.Tie as tie

@@ -1,5 +1,5 @@
 -- `load_writers` meets its contract: its tests are those of the definition.
-use borrow.Author.Needs.{needs}
+use Rattle.prelude.proofs.Kit.{needs}
 use Rattle.machine.specs.Policy.{loadWriters}
 use Rattle.policy.proofs.load_writers.Statement.{statement}
 use Rattle.policy.proofs.load_writers.Tie as tie

@@ -1,5 +1,5 @@
 -- `may_read` meets its contract: its tests are those of the definition.
-use borrow.Author.Needs.{needs}
+use Rattle.prelude.proofs.Kit.{needs}
 use Rattle.machine.specs.Policy.{mayRead}
 use Rattle.policy.proofs.may_read.Statement.{statement}
 use Rattle.policy.proofs.may_read.Tie as tie

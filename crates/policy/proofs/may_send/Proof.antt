@@ -1,6 +1,5 @@
 -- `may_send` meets its contract: its tests are those of the definition.
-use borrow.Author.Needs.{needs}
-use mathlib.Core.Bool.{and-assoc}
+use Rattle.prelude.proofs.Kit.{and-assoc, needs}
 use Rattle.machine.specs.Policy.{maySend}
 use Rattle.policy.proofs.may_send.Statement.{statement}
 use Rattle.policy.proofs.may_send.Tie as tie

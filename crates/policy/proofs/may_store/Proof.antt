@@ -1,5 +1,5 @@
 -- `may_store` meets its contract: its tests are those of the definition.
-use borrow.Author.Needs.{needs}
+use Rattle.prelude.proofs.Kit.{needs}
 use Rattle.machine.specs.Policy.{mayStore}
 use Rattle.policy.proofs.may_store.Statement.{statement}
 use Rattle.policy.proofs.may_store.Tie as tie

@@ -1,5 +1,5 @@
 -- `may_write` meets its contract: its tests are those of the definition.
-use borrow.Author.Needs.{needs}
+use Rattle.prelude.proofs.Kit.{needs}
 use Rattle.machine.specs.Policy.{mayWrite}
 use Rattle.policy.proofs.may_write.Statement.{statement}
 use Rattle.policy.proofs.may_write.Tie as tie

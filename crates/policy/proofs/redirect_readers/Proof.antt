@@ -1,5 +1,5 @@
 -- `redirect_readers` meets its contract: its tests are those of the definition.
-use borrow.Author.Needs.{needs}
+use Rattle.prelude.proofs.Kit.{needs}
 use Rattle.machine.specs.Policy.{redirectReaders}
 use Rattle.policy.proofs.redirect_readers.Statement.{statement}
 use Rattle.policy.proofs.redirect_readers.Tie as tie

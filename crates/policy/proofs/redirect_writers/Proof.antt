@@ -1,5 +1,5 @@
 -- `redirect_writers` meets its contract: its tests are those of the definition.
-use borrow.Author.Needs.{needs}
+use Rattle.prelude.proofs.Kit.{needs}
 use Rattle.machine.specs.Policy.{redirectWriters}
 use Rattle.policy.proofs.redirect_writers.Statement.{statement}
 use Rattle.policy.proofs.redirect_writers.Tie as tie

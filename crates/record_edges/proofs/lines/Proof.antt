@@ -1,8 +1,5 @@
 -- `record_edges::lines` is safe and ends: its indices stay within what it reads and writes.
-use mathlib.Core.Logic.{⊎-elim}
-use native.Mathlib.Omega.{arith}
-use borrow.Author.Needs.{needs}
-use Prim.Native.Nat.{_-_, _≤_}
+use Rattle.prelude.proofs.Kit.{_≤_, _-_, arith, ⊎-elim, needs}
 use Rattle.record_edges.proofs.lines.Statement.{statement}
 use Rattle.record_edges.proofs.lines.Tie as tie
 

@@ -1,10 +1,5 @@
 -- `decode` meets its contract: at each return the tests that led there say what decoding answers.
-use mathlib.Core.Bool.{false}
-use mathlib.Core.Path.{_≡_, refl, sym, ap, _∙_}
-use native.Mathlib.Omega.{arith}
-use denote.Ref.{now}
-use lib.ListN.{length}
-use borrow.Author.Tests.{not-true, not-false}
+use Rattle.prelude.proofs.Kit.{arith, false, _≡_, sym, _∙_, refl, ap, needs, not-false, not-true, now, length}
 use Rattle.prelude.specs.Refusals.{accepted}
 use Rattle.records.specs.declared.Record.{Record}
 use Rattle.records.specs.declared.places.Places.{Places}
@@ -12,7 +7,6 @@ use Rattle.records.specs.Layout.{size}
 use Rattle.records.specs.Codec.{mapOf, keysOf, keysMissing, mapUnknown}
 use Rattle.records.specs.Places.{placesOf}
 use Rattle.records.proofs.Decoding.{end-is-size, refused-by, map-empty, map-unknown, map-known, keys-zero, length-other, decoded-accepted, accepts}
-use borrow.Author.Needs.{needs}
 use Rattle.records.proofs.decode.Statement.{statement}
 use Rattle.records.proofs.decode.Tie as tie
 

@@ -1,16 +1,8 @@
 -- `encode` meets its contract: at each return the tests that led there say what encoding answers.
-use Prim.Native.Nat.{_≤_}
-use mathlib.Core.Bool.{true}
-use mathlib.Core.Path.{_≡_, sym, _∙_, subst}
-use native.Mathlib.Omega.{arith}
-use lib.Dec.{T}
-use lib.ListN.{length}
-use denote.Ref.{now}
-use borrow.Author.Tests.{not-true, not-false}
+use Rattle.prelude.proofs.Kit.{_≤_, arith, true, _≡_, sym, _∙_, subst, needs, not-false, not-true, now, T, length}
 use Rattle.records.specs.Layout.{longest}
 use Rattle.records.specs.Codec.{carriable}
 use Rattle.records.proofs.Encoding.{no-room, not-carriable, written-whole, size-longest, known}
-use borrow.Author.Needs.{needs}
 use Rattle.records.proofs.encode.Statement.{statement}
 use Rattle.records.proofs.encode.Tie as tie
 

@@ -1,17 +1,10 @@
 -- `first_length` meets its contract: the place after the last field, or the end of the bytes where they end before it.
-use Prim.Native.Nat.{ℕ, _≤_}
-use mathlib.Core.Path.{_≡_, sym, ap, _∙_}
-use mathlib.Core.List.{List}
-use native.Mathlib.Omega.{arith}
-use denote.Ref.{now}
-use lib.ListN.{length}
-use lib.Seq.{take-all, length-take-le}
+use Rattle.prelude.proofs.Kit.{ℕ, _≤_, arith, List, _≡_, sym, _∙_, ap, needs, now, length, length-take-le, take-all}
 use Rattle.records.specs.declared.places.Places.{Places}
 use Rattle.records.specs.Layout.{size}
 use Rattle.records.specs.Codec.{mapOf, keysOf, firstRecord}
 use Rattle.records.specs.Places.{placesOf}
 use Rattle.records.proofs.Decoding.{end-is-size}
-use borrow.Author.Needs.{needs}
 use Rattle.records.proofs.first_length.Statement.{statement}
 use Rattle.records.proofs.first_length.Tie as tie
 

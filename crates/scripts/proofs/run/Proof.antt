@@ -1,9 +1,5 @@
 -- `run` meets its contract: what was done and what remains are what the definition does.
-use borrow.Author.Needs.{needs}
-use denote.Ref.{now}
-use mathlib.Core.Path.{refl, sym, _∙_}
-use native.Mathlib.Omega.{arith}
-use Prim.Native.Nat.{_-_, zero-le}
+use Rattle.prelude.proofs.Kit.{_-_, zero-le, arith, sym, _∙_, refl, needs, now}
 use Rattle.machine.specs.Scripts.{stepLimit}
 use Rattle.scripts.proofs.Running.{Running, goes-on, ends, spent}
 use Rattle.scripts.proofs.run.Statement.{statement}

@@ -1,7 +1,6 @@
 -- `walk::feed_record` is safe: the monitor counts no more bytes than the output has.
-use borrow.Author.Needs.{needs}
+use Rattle.prelude.proofs.Kit.{ap, needs}
 use lib.Dec.{lit≤}
-use mathlib.Core.Path.{ap}
 use Rattle.machine.specs.Machine.{Fed}
 use Rattle.machine.proofs.Refusals.{past-is-kept}
 use Rattle.walk.proofs.feed_record.Statement.{statement}

@@ -1,12 +1,7 @@
 -- `walk::feed_records` is safe and ends: each record is within the input and counted once, and the next begins after it.
-use Prim.Native.Nat.{_+_, _-_, _<_, _≤_}
-use mathlib.Core.Path.{_≡_, sym, _∙_}
-use native.Mathlib.Omega.{arith}
-use denote.Ref.{now}
-use lib.ListN.{length}
+use Rattle.prelude.proofs.Kit.{_≤_, _<_, _+_, _-_, arith, _≡_, sym, _∙_, needs, now, length}
 use Rattle.transcript.specs.Input.{recordsAt, inputLimit}
 use Rattle.transcript.proofs.Inputs.{record-within, counted-more}
-use borrow.Author.Needs.{needs}
 use Rattle.walk.proofs.feed_records.Statement.{statement}
 use Rattle.walk.proofs.feed_records.Tie as tie
 

@@ -1,12 +1,7 @@
 -- `walk::print_answer` is safe: what is sent is within the output, there is room for its lines, and what is printed is within the text.
-use mathlib.Core.Path.{sym}
-use native.Mathlib.Omega.{arith}
-use denote.Ref.{now}
-use lib.ListN.{take}
-use lib.Seq.{length-take-le}
+use Rattle.prelude.proofs.Kit.{arith, sym, needs, now, take, length-take-le}
 use Rattle.transcript.specs.Lines.{recordLines}
 use Rattle.transcript.proofs.Writing.{front-within}
-use borrow.Author.Needs.{needs}
 use Rattle.walk.proofs.print_answer.Statement.{statement}
 use Rattle.walk.proofs.print_answer.Tie as tie
 

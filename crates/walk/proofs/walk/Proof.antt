@@ -1,8 +1,6 @@
 -- `walk::walk` is safe: an input that is fed has its parts and is not too long.
-use mathlib.Core.Path.{sym, _∙_}
-use denote.Ref.{now}
+use Rattle.prelude.proofs.Kit.{sym, _∙_, needs, now}
 use Rattle.transcript.proofs.Inputs.{fits-between}
-use borrow.Author.Needs.{needs}
 use Rattle.walk.proofs.walk.Statement.{statement}
 use Rattle.walk.proofs.walk.Tie as tie
 

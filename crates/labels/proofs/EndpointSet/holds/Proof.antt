@@ -1,7 +1,5 @@
 -- `EndpointSet::holds` meets its contract: the bit that is shifted down is the one that membership reads.
-use borrow.Author.Needs.{needs}
-use borrow.Author.Tests.{lt-ltb, le-ltb}
-use native.Mathlib.Omega.{arith}
+use Rattle.prelude.proofs.Kit.{arith, needs, le-ltb, lt-ltb}
 use lib.Bits.{and-mask}
 use Rattle.labels.specs.Membership.{endpoints}
 use Rattle.labels.specs.Sets.{holds}

@@ -1,11 +1,5 @@
 -- `EndpointSet::only` meets its contract: a one that is shifted by at most 31 stays in the word.
-use borrow.Author.Needs.{needs}
-use borrow.Author.Tests.{lt-ltb, le-ltb}
-use native.Mathlib.Omega.{arith}
-use native.Mathlib.Nat.{one-mul}
-use mathlib.Core.Path.{refl, _∙_}
-use Prim.Native.Nat.{_^_}
-use lib.Dec.{lit<}
+use Rattle.prelude.proofs.Kit.{_^_, one-mul, arith, _∙_, refl, needs, le-ltb, lt-ltb, lit<}
 use lib.Pow.{shl-exact}
 use Rattle.labels.specs.Membership.{endpoints}
 use Rattle.labels.specs.Sets.{only, empty, all}

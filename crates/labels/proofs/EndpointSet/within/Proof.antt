@@ -1,5 +1,5 @@
 -- `EndpointSet::within` meets its contract, by the law of `&` and membership.
-use borrow.Author.Needs.{needs}
+use Rattle.prelude.proofs.Kit.{needs}
 use Rattle.labels.proofs.Words.{within-and}
 use Rattle.labels.proofs.EndpointSet.within.Statement.{statement}
 use Rattle.labels.proofs.EndpointSet.within.Tie as tie

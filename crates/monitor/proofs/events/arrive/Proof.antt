@@ -1,11 +1,5 @@
 -- `events::arrive` meets its contract: each refusal where its test is the first that fails, and else what `receive` does.
-use borrow.Author.Needs.{needs}
-use borrow.Author.Tests.{not-true, not-false}
-use denote.Ref.{now}
-use lib.ListN.{take}
-use Prim.Native.Nat.{ℕ}
-use mathlib.Core.Bool.{not, _&&_}
-use mathlib.Core.Path.{_≡_, sym, ap, _∙_, subst}
+use Rattle.prelude.proofs.Kit.{ℕ, _&&_, not, _≡_, sym, _∙_, ap, subst, needs, not-false, not-true, now, take}
 use Rattle.prelude.proofs.Refusals.{NoneOf}
 use Rattle.machine.specs.Policy.{isUrl, isConnection}
 use Rattle.machine.specs.Machine.{Event, carriesNames, named, awaited, readersAllow, writersAllow, eventRefusals, receive, perform}

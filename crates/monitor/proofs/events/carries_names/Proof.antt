@@ -1,7 +1,6 @@
 -- `events::carries_names` meets its contract: the test of each that can arrive.
-use borrow.Author.Needs.{needs}
+use Rattle.prelude.proofs.Kit.{refl, needs}
 use borrow.Author.Tests.{ltb-true}
-use mathlib.Core.Path.{refl}
 use Rattle.monitor.proofs.events.carries_names.Statement.{statement}
 use Rattle.monitor.proofs.events.carries_names.Tie as tie
 

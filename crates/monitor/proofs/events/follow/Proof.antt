@@ -1,8 +1,5 @@
 -- `events::follow` meets its contract: the cookies stored, then the request sent, are what a redirect does.
-use borrow.Author.Needs.{needs}
-use denote.Ref.{now}
-use mathlib.Core.Path.{ap, _∙_}
-use Prim.Native.Nat.{ℕ, zero-le}
+use Rattle.prelude.proofs.Kit.{ℕ, zero-le, _∙_, ap, needs, now}
 use Rattle.machine.specs.Session.{storeCookies}
 use Rattle.session.specs.Delivered.{delivered}
 use Rattle.monitor.proofs.Reacting.{moved-done}

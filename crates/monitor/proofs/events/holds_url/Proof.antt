@@ -1,5 +1,5 @@
 -- `events::holds_url` meets its contract: the field that it compares is the word's.
-use borrow.Author.Needs.{needs}
+use Rattle.prelude.proofs.Kit.{needs}
 use Rattle.monitor.proofs.events.holds_url.Statement.{statement}
 use Rattle.monitor.proofs.events.holds_url.Tie as tie
 

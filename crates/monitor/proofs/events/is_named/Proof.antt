@@ -1,9 +1,5 @@
 -- `events::is_named` meets its contract: both parts of the test, and what they give where it passes.
-use borrow.Author.Needs.{needs}
-use mathlib.Core.Bool.{_&&_}
-use lib.Dec.{T, ltb, ltb→lt}
-use store.Enc.{and-l, and-r}
-use mathlib.Core.Path.{sym, subst}
+use Rattle.prelude.proofs.Kit.{_&&_, sym, subst, needs, T, ltb, ltb→lt, and-r, and-l}
 use Rattle.prelude.proofs.Choices.{is-true}
 use Rattle.machine.specs.Policy.{connections}
 use Rattle.monitor.proofs.events.is_named.Statement.{statement}

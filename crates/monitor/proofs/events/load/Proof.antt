@@ -1,12 +1,5 @@
 -- `events::load` meets its contract: each refusal where its test is the first that fails, and else the request that opens the connection.
-use borrow.Author.Needs.{needs}
-use borrow.Author.Tests.{not-true, not-false}
-use denote.Ref.{now}
-use lib.Dec.{lit<}
-use lib.ListN.{take}
-use mathlib.Core.Bool.{true, not}
-use mathlib.Core.Path.{_≡_, refl, sym, ap, _∙_}
-use Prim.Native.Nat.{zero-le}
+use Rattle.prelude.proofs.Kit.{zero-le, true, not, _≡_, sym, _∙_, refl, ap, needs, not-false, not-true, now, lit<, take}
 use Rattle.prelude.proofs.Refusals.{NoneOf}
 use Rattle.machine.specs.Machine.{Event, Load, named, awaited, readersAllow, writersAllow, eventRefusals, perform}
 use Rattle.monitor.proofs.Reacting.{refused-by, performed, sent-done}

@@ -1,5 +1,5 @@
 -- `events::of_kind` meets its contract: the test of each that can arrive.
-use borrow.Author.Needs.{needs}
+use Rattle.prelude.proofs.Kit.{needs}
 use Rattle.monitor.proofs.events.of_kind.Statement.{statement}
 use Rattle.monitor.proofs.events.of_kind.Tie as tie
 

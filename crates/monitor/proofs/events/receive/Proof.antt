@@ -1,9 +1,5 @@
 -- `events::receive` meets its contract: what each that can arrive does.
-use borrow.Author.Needs.{needs}
-use mathlib.Core.List.{List}
-use mathlib.Core.Path.{_≡_, sym, subst}
-use Prim.Native.Nat.{ℕ}
-use denote.Ref.{now}
+use Rattle.prelude.proofs.Kit.{ℕ, List, _≡_, sym, subst, needs, now}
 use Rattle.machine.specs.Session.{free, kindOf, originOf, handlerOf, urlOf, setConnection, send}
 use Rattle.machine.specs.Scripts.{runScript}
 use Rattle.machine.specs.Machine.{receive, Fed}

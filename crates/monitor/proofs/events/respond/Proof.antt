@@ -1,8 +1,5 @@
 -- `events::respond` meets its contract: cookies stored, connection freed and script run, one after the other, are what a response does.
-use borrow.Author.Needs.{needs}
-use denote.Ref.{now}
-use mathlib.Core.Path.{ap, _∙_}
-use Prim.Native.Nat.{ℕ}
+use Rattle.prelude.proofs.Kit.{ℕ, _∙_, ap, needs, now}
 use Rattle.machine.specs.Session.{storeCookies}
 use Rattle.session.specs.Delivered.{delivered}
 use Rattle.monitor.proofs.Reacting.{part-is, part-length, run-done}

@@ -1,6 +1,5 @@
 -- `refusals::arrived_of` meets its contract: the tests of the map, in the order of the definition.
-use borrow.Author.Needs.{needs}
-use borrow.Author.Tests.{eq-eqb, ne-eqb}
+use Rattle.prelude.proofs.Kit.{needs, ne-eqb, eq-eqb}
 use Rattle.prelude.specs.Choice.{branch}
 use Rattle.machine.specs.Machine.{arrivedOf}
 use Rattle.monitor.proofs.refusals.arrived_of.Statement.{statement}

@@ -1,12 +1,6 @@
 -- `refusals::feed` meets its contract: each refusal where it is the first that applies, and else what `react` does.
-use borrow.Author.Needs.{needs}
-use borrow.Author.Tests.{lt-ltb, le-ltb, eq-eqb, ne-eqb, not-true, not-false}
-use denote.Ref.{now}
-use lib.Dec.{T}
-use lib.ListN.{length, take}
-use mathlib.Core.Bool.{not}
-use mathlib.Core.Path.{sym, ap, _∙_, subst}
-use native.Mathlib.Omega.{arith}
+use Rattle.prelude.proofs.Kit.{arith, not, sym, _∙_, ap, subst, needs, ne-eqb, le-ltb, lt-ltb, not-false, not-true, eq-eqb, now, T, length}
+use Rattle.prelude.proofs.Kit.{take}
 use Rattle.prelude.proofs.Refusals.{NoneOf}
 use Rattle.records.specs.declared.Direction.the-variants.{Input}
 use Rattle.records.specs.declared.Decoded.{Decoded}

@@ -1,8 +1,5 @@
 -- `refusals::react` meets its contract: the event of the fields is a load, or what arrived.
-use borrow.Author.Needs.{needs}
-use borrow.Author.Tests.{eq-eqb, ne-eqb}
-use denote.Ref.{now}
-use mathlib.Core.Path.{_≡_, sym, ap, _∙_}
+use Rattle.prelude.proofs.Kit.{_≡_, sym, _∙_, ap, needs, ne-eqb, eq-eqb, now}
 use Rattle.prelude.specs.Choice.{branch}
 use Rattle.records.specs.declared.Record.{Record}
 use Rattle.records.specs.Layout.{load}

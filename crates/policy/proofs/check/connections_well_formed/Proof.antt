@@ -1,8 +1,5 @@
 -- `check::connections_well_formed` meets its contract: the flag is the test of the connections passed.
-use borrow.Author.Needs.{needs}
-use mathlib.Core.Path.{_≡_}
-use native.Mathlib.Omega.{arith}
-use Prim.Native.Nat.{_-_, _≤_, zero-le}
+use Rattle.prelude.proofs.Kit.{_≤_, _-_, zero-le, arith, _≡_, needs}
 use Rattle.labels.specs.Membership.{allBelow}
 use Rattle.labels.proofs.Below.{all-none, all-next}
 use Rattle.machine.specs.Policy.{connections, connectionWellFormed}

@@ -1,7 +1,5 @@
 -- `check::group_empty` meets its contract: the four pairs of rows are empty just where all eight rows are.
-use borrow.Author.Needs.{needs}
-use denote.Ref.{now}
-use lib.Bits.{bitOr}
+use Rattle.prelude.proofs.Kit.{needs, now, bitOr}
 use Rattle.prelude.proofs.Bits.{or-zero}
 use Rattle.labels.proofs.Below.{eight}
 use Rattle.machine.specs.Policy.{emptyRow}

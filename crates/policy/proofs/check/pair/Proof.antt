@@ -1,7 +1,5 @@
 -- `check::pair` meets its contract: two words of 32 bits fit one of 64.
-use borrow.Author.Needs.{needs}
-use Prim.Native.Nat.{_+_}
-use native.Mathlib.Omega.{arith}
+use Rattle.prelude.proofs.Kit.{_+_, arith, needs}
 use Rattle.policy.proofs.check.pair.Statement.{statement}
 use Rattle.policy.proofs.check.pair.Tie as tie
 

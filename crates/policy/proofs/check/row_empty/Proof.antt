@@ -1,7 +1,5 @@
 -- `check::row_empty` meets its contract: a set within the empty one is 0.
-use borrow.Author.Needs.{needs}
-use denote.Ref.{now}
-use Prim.Native.Nat.{_+_, _*_}
+use Rattle.prelude.proofs.Kit.{_+_, _*_, needs, now}
 use Rattle.policy.proofs.Rows.{row-empty}
 use Rattle.policy.proofs.check.row_empty.Statement.{statement}
 use Rattle.policy.proofs.check.row_empty.Tie as tie

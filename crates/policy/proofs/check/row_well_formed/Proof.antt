@@ -1,6 +1,5 @@
 -- `check::row_well_formed` meets its contract: the address settles which of the two tests of a row is asked.
-use borrow.Author.Needs.{needs}
-use denote.Ref.{now}
+use Rattle.prelude.proofs.Kit.{needs, now}
 use Rattle.policy.proofs.Rows.{row-named, row-unnamed}
 use Rattle.policy.proofs.check.row_well_formed.Statement.{statement}
 use Rattle.policy.proofs.check.row_well_formed.Tie as tie

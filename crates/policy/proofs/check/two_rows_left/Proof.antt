@@ -1,7 +1,5 @@
 -- `check::two_rows_left` meets its contract: the law of two rows that differ in nothing from empty ones.
-use borrow.Author.Needs.{needs}
-use denote.Ref.{now}
-use Prim.Native.Nat.{_+_, _*_}
+use Rattle.prelude.proofs.Kit.{_+_, _*_, needs, now}
 use Rattle.policy.proofs.Pairs.{two-rows}
 use Rattle.policy.proofs.check.two_rows_left.Statement.{statement}
 use Rattle.policy.proofs.check.two_rows_left.Tie as tie

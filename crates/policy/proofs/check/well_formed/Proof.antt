@@ -1,8 +1,5 @@
 -- `check::well_formed` meets its contract: the length, and the two parts of the test.
-use borrow.Author.Needs.{needs}
-use denote.Ref.{now}
-use mathlib.Core.Bool.{_&&_, false≢true}
-use mathlib.Core.Path.{_≡_, sym, _∙_}
+use Rattle.prelude.proofs.Kit.{_&&_, false≢true, _≡_, sym, _∙_, needs, now}
 use Rattle.machine.specs.Policy.{wellFormed}
 use Rattle.policy.proofs.Rows.{formed-length, formed-parts, formed-given}
 use Rattle.policy.proofs.check.well_formed.Statement.{statement}

@@ -1,8 +1,6 @@
 -- `bytes::bit` meets its contract, by the law of a mask.
-use Prim.Native.Nat.{_/_, _^_}
-use native.Mathlib.Omega.{arith}
+use Rattle.prelude.proofs.Kit.{_^_, _/_, arith, needs}
 use lib.Bits.{and-mask, mask-lt}
-use borrow.Author.Needs.{needs}
 use Rattle.records.proofs.bytes.bit.Statement.{statement}
 use Rattle.records.proofs.bytes.bit.Tie as tie
 

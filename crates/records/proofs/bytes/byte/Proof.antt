@@ -1,9 +1,6 @@
 -- `bytes::byte` meets its contract.
-use mathlib.Core.Path.{_≡_, sym}
-use native.Mathlib.Omega.{arith}
-use denote.Ref.{now}
+use Rattle.prelude.proofs.Kit.{arith, _≡_, sym, needs, now}
 use Rattle.records.proofs.Slices.{number-none, number-past, number-one}
-use borrow.Author.Needs.{needs}
 use Rattle.records.proofs.bytes.byte.Statement.{statement}
 use Rattle.records.proofs.bytes.byte.Tie as tie
 

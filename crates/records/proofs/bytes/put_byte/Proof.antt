@@ -1,10 +1,6 @@
 -- `bytes::put_byte` meets its contract.
-use mathlib.Core.Path.{_≡_, refl, sym}
-use native.Mathlib.Nat.{add-zero}
-use native.Mathlib.Omega.{arith}
-use denote.Ref.{now}
+use Rattle.prelude.proofs.Kit.{add-zero, arith, _≡_, sym, refl, needs, now}
 use Rattle.records.proofs.Slices.{sets-none, sets-one}
-use borrow.Author.Needs.{needs}
 use Rattle.records.proofs.bytes.put_byte.Statement.{statement}
 use Rattle.records.proofs.bytes.put_byte.Tie as tie
 

@@ -1,11 +1,6 @@
 -- `bytes::put_word` meets its contract.
-use mathlib.Core.Path.{_≡_, refl, sym}
-use native.Mathlib.Nat.{add-zero}
-use native.Mathlib.Omega.{arith}
-use denote.Ref.{now}
-use lib.ListN.{length-set}
+use Rattle.prelude.proofs.Kit.{add-zero, arith, _≡_, sym, refl, needs, now, length-set}
 use Rattle.records.proofs.Slices.{sets-none, sets-four}
-use borrow.Author.Needs.{needs}
 use Rattle.records.proofs.bytes.put_word.Statement.{statement}
 use Rattle.records.proofs.bytes.put_word.Tie as tie
 

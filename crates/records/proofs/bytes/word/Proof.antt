@@ -1,9 +1,6 @@
 -- `bytes::word` meets its contract.
-use mathlib.Core.Path.{_≡_, sym}
-use native.Mathlib.Omega.{arith}
-use denote.Ref.{now}
+use Rattle.prelude.proofs.Kit.{arith, _≡_, sym, needs, now}
 use Rattle.records.proofs.Slices.{number-none, number-four}
-use borrow.Author.Needs.{needs}
 use Rattle.records.proofs.bytes.word.Statement.{statement}
 use Rattle.records.proofs.bytes.word.Tie as tie
 

@@ -1,7 +1,6 @@
 -- `checks::carriable` meets its contract: it asks the three tests in turn.
-use borrow.Author.Tests.{not-true, not-false}
+use Rattle.prelude.proofs.Kit.{needs, not-false, not-true}
 use Rattle.records.specs.Codec.{carriable}
-use borrow.Author.Needs.{needs}
 use Rattle.records.proofs.checks.carriable.Statement.{statement}
 use Rattle.records.proofs.checks.carriable.Tie as tie
 

@@ -1,10 +1,6 @@
 -- `checks::fields_fit` meets its contract: what must be 0 of each field, joined, is 0.
-use Prim.Native.Nat.{_^_, _<_}
-use mathlib.Core.Path.{_≡_}
-use native.Mathlib.Omega.{arith}
-use lib.ListN.{length}
+use Rattle.prelude.proofs.Kit.{_<_, _^_, arith, _≡_, needs, length}
 use Rattle.records.proofs.Encoding.{all-fit}
-use borrow.Author.Needs.{needs}
 use Rattle.records.proofs.checks.fields_fit.Statement.{statement}
 use Rattle.records.proofs.checks.fields_fit.Tie as tie
 

@@ -1,8 +1,8 @@
 -- `checks::is_map` meets its contract: each arm has the maps of its direction.
+use Rattle.prelude.proofs.Kit.{needs}
 use Rattle.records.specs.declared.Direction.the-variants.{Input, Request}
 use Rattle.records.specs.Layout.{maps}
 use Rattle.records.proofs.Maps.{one-of, none-of}
-use borrow.Author.Needs.{needs}
 use Rattle.records.proofs.checks.is_map.Statement.{statement}
 use Rattle.records.proofs.checks.is_map.Tie as tie
 

@@ -1,10 +1,8 @@
 -- `checks::keys_missing` meets its contract.
-use mathlib.Core.Path.{_≡_, sym, _∙_}
-use native.Mathlib.Omega.{arith}
+use Rattle.prelude.proofs.Kit.{arith, _≡_, sym, _∙_, needs}
 use Rattle.records.specs.Bytes.{bit}
 use Rattle.records.specs.Layout.{cookiesBit}
 use Rattle.records.specs.Codec.{keysMissing}
-use borrow.Author.Needs.{needs}
 use Rattle.records.proofs.checks.keys_missing.Statement.{statement}
 use Rattle.records.proofs.checks.keys_missing.Tie as tie
 

@@ -1,6 +1,6 @@
 -- `checks::longest` meets its contract: the largest size of each direction's maps is computed.
+use Rattle.prelude.proofs.Kit.{needs}
 use Rattle.records.specs.Layout.{longest}
-use borrow.Author.Needs.{needs}
 use Rattle.records.proofs.checks.longest.Statement.{statement}
 use Rattle.records.proofs.checks.longest.Tie as tie
 

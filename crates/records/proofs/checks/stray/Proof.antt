@@ -1,10 +1,7 @@
 -- `checks::stray` meets its contract: below 256 ^ 0 there is 0 alone.
-use Prim.Native.Nat.{ℕ, zero, suc, _^_}
+use Rattle.prelude.proofs.Kit.{ℕ, suc, _^_, zero, arith, _≡_, sym, _∙_, refl, lt-ltb, eqb, ltb, eqb·suc-zero}
 use native.Mathlib.Nat.{mul-zero, mul-one}
-use native.Mathlib.Omega.{arith}
-use mathlib.Core.Path.{_≡_, refl, sym, _∙_}
-use lib.Dec.{ltb, eqb, leb·suc-suc, leb·suc-zero, eqb·suc-zero}
-use borrow.Author.Tests.{lt-ltb}
+use lib.Dec.{leb·suc-suc, leb·suc-zero}
 use Rattle.records.proofs.checks.stray.Statement.{statement}
 use Rattle.records.proofs.checks.stray.Tie as tie
 

@@ -1,9 +1,5 @@
 -- `checks::stray_cookies` meets its contract: what was met so far is 0 and the values from a key on fit, just where all do.
-use Prim.Native.Nat.{ℕ, _-_}
-use mathlib.Core.Path.{_≡_}
-use native.Mathlib.Omega.{arith}
-use borrow.Author.Needs.{needs}
-use lib.ListN.{getD}
+use Rattle.prelude.proofs.Kit.{ℕ, _-_, arith, _≡_, needs, getD}
 use mir.Syntax.{w32}
 use mir.Val.{Fits}
 use Rattle.records.proofs.Cookies.{Testing, testing-begins, testing-goes-on, testing-ends}

@@ -1,8 +1,7 @@
 -- `fields::key_map` meets its contract: the key map is read at its place.
-use denote.Ref.{now}
+use Rattle.prelude.proofs.Kit.{needs, now}
 use Rattle.records.specs.Places.{placesOf}
 use Rattle.records.proofs.Values.{keys-read}
-use borrow.Author.Needs.{needs}
 use Rattle.records.proofs.fields.key_map.Statement.{statement}
 use Rattle.records.proofs.fields.key_map.Tie as tie
 

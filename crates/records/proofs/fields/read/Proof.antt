@@ -1,10 +1,8 @@
 -- `fields::read` meets its contract: each field is read at its place.
-use native.Mathlib.Omega.{arith}
-use denote.Ref.{now}
+use Rattle.prelude.proofs.Kit.{arith, needs, now}
 use Rattle.records.specs.Places.{placesOf}
 use Rattle.records.proofs.Values.{fields-read}
 use Rattle.records.proofs.Writing.{size-split, value-within}
-use borrow.Author.Needs.{needs}
 use Rattle.records.proofs.fields.read.Statement.{statement}
 use Rattle.records.proofs.fields.read.Tie as tie
 

@@ -1,9 +1,5 @@
 -- `fields::read_cookies` meets its contract: the values so far, and those that are read from a key on, are all of them.
-use mathlib.Core.Path.{_≡_}
-use denote.Ref.{now}
-use Prim.Native.Nat.{_-_}
-use native.Mathlib.Omega.{arith}
-use borrow.Author.Needs.{needs}
+use Rattle.prelude.proofs.Kit.{_-_, arith, _≡_, needs, now}
 use Rattle.records.specs.Bytes.{number}
 use Rattle.records.specs.Layout.{widths, split}
 use Rattle.records.specs.Places.{cookieWidths}

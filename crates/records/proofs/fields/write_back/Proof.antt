@@ -1,13 +1,8 @@
 -- `fields::write_back` meets its contract: its three fields are written one after another.
-use Prim.Native.Nat.{ℕ, _+_, _*_, _≤_}
-use mathlib.Core.Path.{ap, subst}
-use mathlib.Core.List.{List, [], _∷_}
-use denote.Ref.{now}
-use lib.ListN.{length}
+use Rattle.prelude.proofs.Kit.{ℕ, _≤_, _+_, _*_, List, _∷_, [], ap, subst, needs, now, length}
 use Rattle.records.specs.Bytes.{bit}
 use Rattle.records.specs.Layout.{sum}
 use Rattle.records.proofs.Writing.{back-widths, three}
-use borrow.Author.Needs.{needs}
 use Rattle.records.proofs.fields.write_back.Statement.{statement}
 use Rattle.records.proofs.fields.write_back.Tie as tie
 

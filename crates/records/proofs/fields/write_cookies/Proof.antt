@@ -1,9 +1,5 @@
 -- `fields::write_cookies` meets its contract: what is written from a key on makes the whole.
-use Prim.Native.Nat.{_-_}
-use mathlib.Core.Path.{_≡_}
-use native.Mathlib.Omega.{arith}
-use denote.Ref.{now}
-use borrow.Author.Needs.{needs}
+use Rattle.prelude.proofs.Kit.{_-_, arith, _≡_, needs, now}
 use Rattle.records.proofs.Cookies.{Writing, writing-begins, writing-goes-on, writing-ends, sum-from}
 use Rattle.records.proofs.fields.write_cookies.Statement.{statement}
 use Rattle.records.proofs.fields.write_cookies.Tie as tie

@@ -1,14 +1,8 @@
 -- `fields::write_front` meets its contract: its three fields are written one after another.
-use Prim.Native.Nat.{_+_, _≤_}
-use mathlib.Core.List.{[], _∷_}
-use mathlib.Core.Path.{_∙_}
-use native.Mathlib.Omega.{arith}
-use denote.Ref.{now}
-use lib.ListN.{length, set, length-set}
+use Rattle.prelude.proofs.Kit.{_≤_, _+_, arith, _∷_, [], _∙_, needs, now, length, set, length-set}
 use Rattle.records.specs.Bytes.{bit}
 use Rattle.records.specs.Layout.{sum}
 use Rattle.records.proofs.Writing.{front-widths, front-end, three}
-use borrow.Author.Needs.{needs}
 use Rattle.records.proofs.fields.write_front.Statement.{statement}
 use Rattle.records.proofs.fields.write_front.Tie as tie
 

@@ -1,8 +1,6 @@
 -- `places::count_keys` meets its contract: a byte has at most eight ones.
-use mathlib.Core.Path.{refl}
-use native.Mathlib.Omega.{arith}
+use Rattle.prelude.proofs.Kit.{arith, refl, needs}
 use lib.Count.{ones-le}
-use borrow.Author.Needs.{needs}
 use Rattle.records.proofs.places.count_keys.Statement.{statement}
 use Rattle.records.proofs.places.count_keys.Tie as tie
 

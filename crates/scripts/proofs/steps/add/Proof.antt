@@ -1,8 +1,5 @@
 -- `steps::add` meets its contract: it goes on, or ends, where the definition does.
-use borrow.Author.Needs.{needs}
-use denote.Ref.{now}
-use mathlib.Core.Path.{refl, _∙_}
-use Prim.Native.Nat.{_<_}
+use Rattle.prelude.proofs.Kit.{_<_, _∙_, refl, needs, now}
 use Rattle.prelude.proofs.Choices.{chosen, left-out}
 use Rattle.machine.specs.Scripts.{registerCount, step}
 use Rattle.scripts.proofs.OneStep.{next, stops, all-named}

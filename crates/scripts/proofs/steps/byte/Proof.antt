@@ -1,7 +1,5 @@
 -- `steps::byte` meets its contract: a byte of the slice is below 256.
-use borrow.Author.Needs.{needs}
-use mathlib.Core.Path.{refl}
-use native.Mathlib.Omega.{arith}
+use Rattle.prelude.proofs.Kit.{arith, refl, needs}
 use Rattle.scripts.proofs.steps.byte.Statement.{statement}
 use Rattle.scripts.proofs.steps.byte.Tie as tie
 

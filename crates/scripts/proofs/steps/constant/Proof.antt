@@ -1,9 +1,5 @@
 -- `steps::constant` meets its contract: it goes on, or ends, where the definition does.
-use borrow.Author.Needs.{needs}
-use borrow.Author.Tests.{lt-ltb, le-ltb}
-use denote.Ref.{now}
-use lib.Dec.{ltb}
-use mathlib.Core.Path.{refl}
+use Rattle.prelude.proofs.Kit.{refl, needs, le-ltb, lt-ltb, now, ltb}
 use Rattle.prelude.proofs.Choices.{chosen, left-out}
 use Rattle.machine.specs.Scripts.{registerCount, step}
 use Rattle.scripts.proofs.OneStep.{next, stops}

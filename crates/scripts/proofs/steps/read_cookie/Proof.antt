@@ -1,7 +1,5 @@
 -- `steps::read_cookie` meets its contract: it goes on, or ends, where the definition does.
-use borrow.Author.Needs.{needs}
-use denote.Ref.{now}
-use Prim.Native.Nat.{_<_}
+use Rattle.prelude.proofs.Kit.{_<_, needs, now}
 use Rattle.machine.specs.Scripts.{registerCount}
 use Rattle.scripts.proofs.OneStep.{named, read-no-key, read-goes-on, read-ends}
 use Rattle.scripts.proofs.steps.read_cookie.Statement.{statement}

@@ -1,14 +1,5 @@
 -- `steps::send_request` meets its contract: it goes on, or ends, where the definition does.
-use Prim.Native.Nat.{ℕ, _≤_}
-use borrow.Author.Needs.{needs}
-use borrow.Author.Tests.{not-true, not-false}
-use denote.Ref.{now}
-use lib.Dec.{lit<}
-use lib.ListN.{length}
-use mathlib.Core.Bool.{true}
-use mathlib.Core.List.{List}
-use mathlib.Core.Path.{_≡_, sym, _∙_}
-use native.Mathlib.Omega.{arith}
+use Rattle.prelude.proofs.Kit.{ℕ, _≤_, arith, true, List, _≡_, sym, _∙_, needs, not-false, not-true, now, lit<, length}
 use Rattle.machine.specs.Policy.{isUrl}
 use Rattle.machine.specs.Scripts.{sendRequest, step, goesOn}
 use Rattle.policy.specs.Given.{Url}

@@ -1,6 +1,5 @@
 -- `steps::set_if_allowed` meets its contract: the test is the policy's.
-use borrow.Author.Needs.{needs}
-use mathlib.Core.Path.{refl}
+use Rattle.prelude.proofs.Kit.{refl, needs}
 use Rattle.prelude.proofs.Choices.{chosen, left-out}
 use Rattle.scripts.proofs.steps.set_if_allowed.Statement.{statement}
 use Rattle.scripts.proofs.steps.set_if_allowed.Tie as tie

@@ -1,9 +1,5 @@
 -- `steps::skip_if_zero` meets its contract: it goes on, or ends, where the definition does.
-use borrow.Author.Needs.{needs}
-use borrow.Author.Tests.{lt-ltb, le-ltb, eq-eqb, ne-eqb}
-use denote.Ref.{now}
-use lib.Dec.{ltb}
-use mathlib.Core.Path.{refl}
+use Rattle.prelude.proofs.Kit.{refl, needs, ne-eqb, le-ltb, lt-ltb, eq-eqb, now, ltb}
 use Rattle.prelude.proofs.Choices.{chosen, left-out}
 use Rattle.machine.specs.Scripts.{registerCount, step}
 use Rattle.scripts.proofs.OneStep.{moved, next, stops}

@@ -1,10 +1,5 @@
 -- `steps::step` meets its contract: the step of the four bytes at the place, by its operation.
-use borrow.Author.Needs.{needs}
-use denote.Ref.{now}
-use lib.ListN.{length}
-use mathlib.Core.List.{List}
-use mathlib.Core.Path.{_≡_, refl, _∙_}
-use Prim.Native.Nat.{ℕ, _≤_}
+use Rattle.prelude.proofs.Kit.{ℕ, _≤_, List, _≡_, _∙_, refl, needs, now, length}
 use Rattle.prelude.specs.Choice.{branch}
 use Rattle.machine.specs.Scripts.{Step, step, stepOf, stepAt, goesOn}
 use Rattle.session.specs.Output.{output}

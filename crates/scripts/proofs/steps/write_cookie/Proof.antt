@@ -1,7 +1,5 @@
 -- `steps::write_cookie` meets its contract: it goes on, or ends, where the definition does.
-use borrow.Author.Needs.{needs}
-use denote.Ref.{now}
-use mathlib.Core.Path.{refl}
+use Rattle.prelude.proofs.Kit.{refl, needs, now}
 use Rattle.machine.specs.Scripts.{register}
 use Rattle.scripts.proofs.OneStep.{write-no-key, write-no-register, write-goes-on}
 use Rattle.scripts.proofs.steps.write_cookie.Statement.{statement}

@@ -1,5 +1,5 @@
 -- `cookies::has` meets its contract: the bit that is shifted down is the one that the definition reads.
-use borrow.Author.Needs.{needs}
+use Rattle.prelude.proofs.Kit.{needs}
 use lib.Bits.{and-mask}
 use Rattle.machine.specs.Session.{has}
 use Rattle.session.proofs.cookies.has.Statement.{statement}

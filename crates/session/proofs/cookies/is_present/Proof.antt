@@ -1,5 +1,5 @@
 -- `cookies::is_present` meets its contract: the key is in the presence word.
-use borrow.Author.Needs.{needs}
+use Rattle.prelude.proofs.Kit.{needs}
 use Rattle.session.proofs.cookies.is_present.Statement.{statement}
 use Rattle.session.proofs.cookies.is_present.Tie as tie
 

@@ -1,8 +1,5 @@
 -- `cookies::set_cookie` meets its contract: a key added by "or" is one more key that passes.
-use borrow.Author.Needs.{needs}
-use denote.Ref.{now}
-use native.Mathlib.Omega.{arith}
-use lib.ListN.{length-set}
+use Rattle.prelude.proofs.Kit.{arith, needs, now, length-set}
 use Rattle.machine.specs.Session.{presence, setCookie}
 use Rattle.policy.proofs.KeyBits.{with-key}
 use Rattle.session.proofs.cookies.set_cookie.Statement.{statement}

@@ -1,6 +1,5 @@
 -- `cookies::store_cookie` meets its contract: the test is the policy's.
-use borrow.Author.Needs.{needs}
-use mathlib.Core.Path.{refl}
+use Rattle.prelude.proofs.Kit.{refl, needs}
 use Rattle.prelude.proofs.Choices.{chosen, left-out}
 use Rattle.machine.specs.Session.{storeCookie}
 use Rattle.session.proofs.cookies.store_cookie.Statement.{statement}

@@ -1,9 +1,5 @@
 -- `cookies::store_cookies` meets its contract: the cookies stored so far, and those from a key on, are all of them.
-use Prim.Native.Nat.{_-_, zero-le}
-use borrow.Author.Needs.{needs}
-use denote.Ref.{now}
-use mathlib.Core.Path.{_≡_, refl, sym, _∙_}
-use native.Mathlib.Omega.{arith}
+use Rattle.prelude.proofs.Kit.{_-_, zero-le, arith, _≡_, sym, _∙_, refl, needs, now}
 use Rattle.prelude.specs.Choice.{branch, keep}
 use Rattle.machine.specs.Policy.{hostKeys}
 use Rattle.machine.specs.Session.{storeCookies}

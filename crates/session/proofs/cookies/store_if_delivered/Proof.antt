@@ -1,6 +1,5 @@
 -- `cookies::store_if_delivered` meets its contract: the test is that the key is in the map.
-use borrow.Author.Needs.{needs}
-use mathlib.Core.Path.{refl}
+use Rattle.prelude.proofs.Kit.{refl, needs}
 use Rattle.prelude.proofs.Choices.{chosen, left-out}
 use Rattle.session.proofs.cookies.store_if_delivered.Statement.{statement}
 use Rattle.session.proofs.cookies.store_if_delivered.Tie as tie

@@ -1,10 +1,6 @@
 -- `requests::attached_keys` meets its contract: of the keys that are present, those that the request may carry.
-use Prim.Native.Nat.{ℕ}
-use borrow.Author.Needs.{needs}
-use denote.Ref.{now}
-use lib.Bits.{bitAnd, and-le-r}
-use mathlib.Core.List.{List}
-use mathlib.Core.Path.{_≡_}
+use Rattle.prelude.proofs.Kit.{ℕ, List, _≡_, needs, now, and-le-r}
+use lib.Bits.{bitAnd}
 use native.Mathlib.Nat.{lt-of-le-of-lt, le-refl}
 use Rattle.machine.specs.Policy.{hostKeys, urlHost, mayCarry}
 use Rattle.machine.specs.Session.{presence, keyMap, attaches}

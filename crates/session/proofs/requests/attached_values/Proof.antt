@@ -1,8 +1,5 @@
 -- `requests::attached_values` meets its contract: the values so far, and those from a key on, are all of them.
-use Prim.Native.Nat.{_-_, zero-le}
-use borrow.Author.Needs.{needs}
-use mathlib.Core.Path.{_≡_, refl}
-use native.Mathlib.Omega.{arith}
+use Rattle.prelude.proofs.Kit.{_-_, zero-le, arith, _≡_, refl, needs}
 use Rattle.prelude.specs.Choice.{branch}
 use Rattle.machine.specs.Policy.{hostKeys}
 use Rattle.machine.specs.Policy.{cookieIndex}

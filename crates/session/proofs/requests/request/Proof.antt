@@ -1,7 +1,5 @@
 -- `requests::request` meets its contract: the fields are those of the definition.
-use borrow.Author.Needs.{needs}
-use denote.Ref.{now}
-use native.Mathlib.Omega.{arith}
+use Rattle.prelude.proofs.Kit.{arith, needs, now}
 use Rattle.session.proofs.Made.{made}
 use Rattle.session.proofs.requests.request.Statement.{statement}
 use Rattle.session.proofs.requests.request.Tie as tie

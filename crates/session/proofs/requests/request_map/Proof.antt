@@ -1,6 +1,5 @@
 -- `requests::request_map` meets its contract: the map of each kind, with cookies and without.
-use borrow.Author.Needs.{needs}
-use borrow.Author.Tests.{eq-eqb, ne-eqb}
+use Rattle.prelude.proofs.Kit.{needs, ne-eqb, eq-eqb}
 use Rattle.prelude.specs.Choice.{branch}
 use Rattle.machine.specs.Session.{requestMap}
 use Rattle.session.proofs.requests.request_map.Statement.{statement}

@@ -1,5 +1,5 @@
 -- `requests::send` meets its contract: the request is written, and then the connection is set.
-use borrow.Author.Needs.{needs}
+use Rattle.prelude.proofs.Kit.{needs}
 use Rattle.session.proofs.requests.send.Statement.{statement}
 use Rattle.session.proofs.requests.send.Tie as tie
 

@@ -1,6 +1,5 @@
 -- `requests::value_in` meets its contract: the test is that the key is in the map.
-use borrow.Author.Needs.{needs}
-use mathlib.Core.Path.{refl}
+use Rattle.prelude.proofs.Kit.{refl, needs}
 use Rattle.prelude.proofs.Choices.{chosen, left-out}
 use Rattle.session.proofs.requests.value_in.Statement.{statement}
 use Rattle.session.proofs.requests.value_in.Tie as tie

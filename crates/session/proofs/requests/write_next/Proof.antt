@@ -1,7 +1,5 @@
 -- `requests::write_next` meets its contract: a record written into the lent part of the buffer is the next of the whole.
-use borrow.Author.Needs.{needs}
-use denote.Ref.{now}
-use native.Mathlib.Omega.{arith}
+use Rattle.prelude.proofs.Kit.{arith, needs, now}
 use Rattle.records.specs.Codec.{written}
 use Rattle.session.proofs.Outputs.{next-room, next-written}
 use Rattle.session.proofs.requests.write_next.Statement.{statement}

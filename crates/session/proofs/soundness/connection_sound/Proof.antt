@@ -1,8 +1,5 @@
 -- `soundness::connection_sound` meets its contract: a free word, a word whose URL is none or does not fit, and any other by its shape.
-use borrow.Author.Needs.{needs}
-use borrow.Author.Tests.{not-true, not-false}
-use denote.Ref.{now}
-use mathlib.Core.Path.{sym, _∙_}
+use Rattle.prelude.proofs.Kit.{sym, _∙_, needs, not-false, not-true, now}
 use Rattle.session.proofs.ConnectionTests.{free-sound, no-url, misfit, document, neither, script}
 use Rattle.session.proofs.soundness.connection_sound.Statement.{statement}
 use Rattle.session.proofs.soundness.connection_sound.Tie as tie

@@ -1,6 +1,5 @@
 -- `soundness::four_free` meets its contract: two pairs joined are 0 just where each of the four words is.
-use borrow.Author.Needs.{needs}
-use denote.Ref.{now}
+use Rattle.prelude.proofs.Kit.{needs, now}
 use Rattle.prelude.proofs.Bits.{or-zero}
 use Rattle.machine.specs.Session.{connectionWord}
 use Rattle.session.proofs.Fours.{four-free}

@@ -1,11 +1,5 @@
 -- `soundness::hosts_sound` meets its contract: the two tests at the end, asked of what is gathered so far, are the test of the hosts passed.
-use borrow.Author.Needs.{needs}
-use denote.Ref.{now}
-use mathlib.Core.Bool.{_&&_}
-use mathlib.Core.Path.{_≡_}
-use native.Mathlib.Omega.{arith}
-use Prim.Native.Nat.{_-_, _≤_, zero-le}
-use lib.Dec.{ltb}
+use Rattle.prelude.proofs.Kit.{_≤_, _-_, zero-le, arith, _&&_, _≡_, needs, now, ltb}
 use Rattle.labels.specs.Addresses.{hosts}
 use Rattle.labels.specs.Membership.{allBelow}
 use Rattle.labels.proofs.Below.{all-none}

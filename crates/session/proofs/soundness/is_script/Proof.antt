@@ -1,5 +1,5 @@
 -- `soundness::is_script` meets its contract: kind and origin are a range, and the other two tests are the shape's own.
-use borrow.Author.Needs.{needs}
+use Rattle.prelude.proofs.Kit.{needs}
 use Rattle.machine.specs.Session.{handlerOf, urlOf}
 use Rattle.session.proofs.ConnectionTests.{script-ranges}
 use Rattle.session.proofs.soundness.is_script.Statement.{statement}

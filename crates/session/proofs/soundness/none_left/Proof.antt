@@ -1,11 +1,5 @@
 -- `soundness::none_left` meets its contract: the words joined so far, and those from a key on, are 0 just where all are.
-use borrow.Author.Needs.{needs}
-use mathlib.Core.Bool.{_&&_}
-use mathlib.Core.Path.{_≡_, refl, sym, _∙_}
-use native.Mathlib.Omega.{arith}
-use Prim.Native.Nat.{_-_, _≤_, zero-le}
-use lib.Dec.{eqb}
-use lib.ListN.{length, drop}
+use Rattle.prelude.proofs.Kit.{_≤_, _-_, zero-le, arith, _&&_, _≡_, sym, _∙_, refl, needs, eqb, length, drop}
 use Rattle.machine.specs.Policy.{hostKeys}
 use Rattle.session.specs.Strays.{noneLeft}
 use Rattle.session.proofs.Strays.{word-joined, all-joined}

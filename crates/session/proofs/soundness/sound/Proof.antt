@@ -1,8 +1,5 @@
 -- `soundness::sound` meets its contract: the length, and the two parts of the test.
-use borrow.Author.Needs.{needs}
-use borrow.Author.Tests.{eq-eqb, ne-eqb}
-use denote.Ref.{now}
-use lib.ListN.{length}
+use Rattle.prelude.proofs.Kit.{needs, ne-eqb, eq-eqb, now, length}
 use Rattle.machine.specs.Session.{stateWords, sound}
 use Rattle.session.proofs.soundness.sound.Statement.{statement}
 use Rattle.session.proofs.soundness.sound.Tie as tie

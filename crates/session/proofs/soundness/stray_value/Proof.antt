@@ -1,6 +1,5 @@
 -- `soundness::stray_value` meets its contract: the test is that the key is present.
-use borrow.Author.Needs.{needs}
-use mathlib.Core.Path.{sym, _∙_}
+use Rattle.prelude.proofs.Kit.{sym, _∙_, needs}
 use Rattle.session.proofs.soundness.stray_value.Statement.{statement}
 use Rattle.session.proofs.soundness.stray_value.Tie as tie
 

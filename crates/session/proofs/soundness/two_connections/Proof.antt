@@ -1,8 +1,5 @@
 -- `soundness::two_connections` meets its contract: the two words as one are 0 just where each is.
-use borrow.Author.Needs.{needs}
-use denote.Ref.{now}
-use Prim.Native.Nat.{_+_}
-use lib.Dec.{lit<}
+use Rattle.prelude.proofs.Kit.{_+_, needs, now, lit<}
 use Rattle.machine.specs.Session.{connectionsAt, connectionWord}
 use Rattle.policy.proofs.Pairs.{pair-is}
 use Rattle.session.proofs.soundness.two_connections.Statement.{statement}

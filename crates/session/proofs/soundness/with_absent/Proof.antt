@@ -1,11 +1,5 @@
 -- `soundness::with_absent` meets its contract: each value that is joined adds the test of its cookie.
-use borrow.Author.Needs.{needs}
-use denote.Ref.{now}
-use mathlib.Core.Bool.{_&&_}
-use mathlib.Core.Path.{_≡_, refl}
-use native.Mathlib.Omega.{arith}
-use Prim.Native.Nat.{_-_, _≤_, zero-le}
-use lib.ListN.{length, length-set}
+use Rattle.prelude.proofs.Kit.{_≤_, _-_, zero-le, arith, _&&_, _≡_, refl, needs, now, length, length-set}
 use Rattle.labels.specs.Membership.{allBelow}
 use Rattle.labels.proofs.Below.{all-none}
 use Rattle.machine.specs.Policy.{hostKeys}

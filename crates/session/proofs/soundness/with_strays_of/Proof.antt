@@ -1,7 +1,5 @@
 -- `soundness::with_strays_of` meets its contract: a host with every key leaves none.
-use borrow.Author.Needs.{needs}
-use denote.Ref.{now}
-use mathlib.Core.Path.{sym, _∙_}
+use Rattle.prelude.proofs.Kit.{sym, _∙_, needs, now}
 use Rattle.session.proofs.Strays.{all-present}
 use Rattle.session.proofs.soundness.with_strays_of.Statement.{statement}
 use Rattle.session.proofs.soundness.with_strays_of.Tie as tie

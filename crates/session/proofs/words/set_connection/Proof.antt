@@ -1,7 +1,6 @@
 -- `words::set_connection` meets its contract: the store is that of the definition.
+use Rattle.prelude.proofs.Kit.{refl, needs}
 use Rattle.machine.specs.Session.{setConnection}
-use borrow.Author.Needs.{needs}
-use mathlib.Core.Path.{refl}
 use Rattle.session.proofs.words.set_connection.Statement.{statement}
 use Rattle.session.proofs.words.set_connection.Tie as tie
 

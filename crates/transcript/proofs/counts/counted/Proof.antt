@@ -1,6 +1,5 @@
 -- `counts::counted` meets its contract.
-use borrow.Author.Tests.{eq-eqb, ne-eqb}
-use borrow.Author.Needs.{needs}
+use Rattle.prelude.proofs.Kit.{needs, ne-eqb, eq-eqb}
 use Rattle.transcript.proofs.counts.counted.Statement.{statement}
 use Rattle.transcript.proofs.counts.counted.Tie as tie
 

@@ -1,5 +1,5 @@
 -- `input::input_size` meets its contract.
-use borrow.Author.Tests.{lt-ltb, le-ltb}
+use Rattle.prelude.proofs.Kit.{le-ltb, lt-ltb}
 use Rattle.transcript.proofs.input.input_size.Statement.{statement}
 use Rattle.transcript.proofs.input.input_size.Tie as tie
 

@@ -1,7 +1,5 @@
 -- `input::next_record` meets its contract: the tests that led to each return say what is at the place.
-use native.Mathlib.Omega.{arith}
-use borrow.Author.Tests.{lt-ltb, le-ltb}
-use borrow.Author.Needs.{needs}
+use Rattle.prelude.proofs.Kit.{arith, needs, le-ltb, lt-ltb}
 use Rattle.transcript.proofs.input.next_record.Statement.{statement}
 use Rattle.transcript.proofs.input.next_record.Tie as tie
 

@@ -1,9 +1,7 @@
 -- `input::policy_words` meets its contract: what is left to read from a word on makes the whole.
-use Prim.Native.Nat.{_-_}
-use native.Mathlib.Omega.{arith}
+use Rattle.prelude.proofs.Kit.{_-_, arith, needs}
 use Rattle.machine.specs.Policy.{policyWords}
 use Rattle.transcript.proofs.Words.{Reading, reading-begins, reading-goes-on, reading-ends}
-use borrow.Author.Needs.{needs}
 use Rattle.transcript.proofs.input.policy_words.Statement.{statement}
 use Rattle.transcript.proofs.input.policy_words.Tie as tie
 

@@ -1,8 +1,6 @@
 -- `input::word` meets its contract.
-use denote.Ref.{now}
-use native.Mathlib.Omega.{arith}
+use Rattle.prelude.proofs.Kit.{arith, needs, now}
 use Rattle.records.proofs.Slices.{number-four}
-use borrow.Author.Needs.{needs}
 use Rattle.transcript.proofs.input.word.Statement.{statement}
 use Rattle.transcript.proofs.input.word.Tie as tie
 

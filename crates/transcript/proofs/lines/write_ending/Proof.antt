@@ -1,5 +1,5 @@
 -- `lines::write_ending` meets its contract: each word with the space after it.
-use borrow.Author.Needs.{needs}
+use Rattle.prelude.proofs.Kit.{needs}
 use Rattle.transcript.proofs.lines.write_ending.Statement.{statement}
 use Rattle.transcript.proofs.lines.write_ending.Tie as tie
 

@@ -1,15 +1,11 @@
 -- `lines::write_last_line` meets its contract: the word, then two numbers.
-use mathlib.Core.Path.{_≡_, refl}
-use mathlib.Core.List.{[], _∷_, _++_}
-use native.Mathlib.Omega.{arith}
-use lib.ListN.{length}
+use Rattle.prelude.proofs.Kit.{arith, _∷_, [], _++_, _≡_, refl, needs, length}
 use Rattle.transcript.specs.declared.input.Ending.{Ending}
 use Rattle.transcript.specs.declared.input.Ending.the-variants.{End, Cut}
 use Rattle.transcript.specs.Text.{space}
 use Rattle.transcript.specs.Lines.{endingWord}
 use Rattle.transcript.proofs.Decimals.{number-room}
 use Rattle.transcript.proofs.Writing.{wrote-then, at-front}
-use borrow.Author.Needs.{needs}
 use Rattle.transcript.proofs.lines.write_last_line.Statement.{statement}
 use Rattle.transcript.proofs.lines.write_last_line.Tie as tie
 

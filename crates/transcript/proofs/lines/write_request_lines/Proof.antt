@@ -1,16 +1,10 @@
 -- `lines::write_request_lines` meets its contract: the lines that are left to write make the whole.
-use Prim.Native.Nat.{ℕ, _+_, _-_, _≤_}
-use mathlib.Core.Path.{_≡_, ap, _∙_}
-use mathlib.Core.List.{List}
-use native.Mathlib.Omega.{arith}
-use denote.Ref.{now}
-use lib.ListN.{length, drop, length-drop, drop-of-length-le}
+use Rattle.prelude.proofs.Kit.{ℕ, _≤_, _+_, _-_, arith, List, _≡_, _∙_, ap, needs, now, length, drop, length-drop, drop-of-length-le}
 use Rattle.records.specs.declared.Direction.the-variants.{Request}
 use Rattle.records.specs.Codec.{decoded, firstRecord}
 use Rattle.transcript.specs.Lines.{sentLines}
 use Rattle.transcript.proofs.Requests.{number, firstRequest, first-within, lines-end, lines-none}
 use Rattle.transcript.proofs.Printing.{rest-is, first-taken, Printing, printing-begins, request-bytes, request-room, printing-goes-on, printing-ends}
-use borrow.Author.Needs.{needs}
 use Rattle.transcript.proofs.lines.write_request_lines.Statement.{statement}
 use Rattle.transcript.proofs.lines.write_request_lines.Tie as tie
 

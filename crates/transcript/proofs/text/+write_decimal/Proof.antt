@@ -1,11 +1,7 @@
 -- `text::write_decimal` meets its contract: the digits of a tenth, and one more. The measure is the number.
-use Prim.Native.Nat.{ℕ, _+_, _/_, _<_}
-use mathlib.Core.Path.{_≡_, refl, ap}
-use native.Mathlib.Omega.{arith}
-use lib.ListN.{length}
+use Rattle.prelude.proofs.Kit.{ℕ, _<_, _+_, _/_, arith, _≡_, refl, ap, needs, length}
 use borrow.Fn.Kinds.{In}
 use borrow.Fn.PlainCycle.{Measures, is, falls, and}
-use borrow.Author.Needs.{needs}
 use Rattle.transcript.specs.Text.{decimal}
 use Rattle.transcript.proofs.Decimals.{decimal-one, decimal-more, decimal-longer}
 use Rattle.transcript.proofs.Writing.{wrote-byte}

@@ -1,6 +1,5 @@
 -- `text::hex_digit` meets its contract.
-use borrow.Author.Tests.{lt-ltb, le-ltb}
-use borrow.Author.Needs.{needs}
+use Rattle.prelude.proofs.Kit.{needs, le-ltb, lt-ltb}
 use Rattle.transcript.proofs.text.hex_digit.Statement.{statement}
 use Rattle.transcript.proofs.text.hex_digit.Tie as tie
 

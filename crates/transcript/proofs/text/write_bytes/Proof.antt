@@ -1,13 +1,6 @@
 -- `text::write_bytes` meets its contract: what is written from an index on makes the whole.
-use Prim.Native.Nat.{ℕ, _+_, _-_, _≤_}
-use mathlib.Core.Path.{_≡_, refl, sym, ap, _∙_}
-use native.Mathlib.Nat.{add-zero}
-use native.Mathlib.Omega.{arith}
-use denote.Ref.{now}
-use lib.ListN.{length, drop, length-set}
-use lib.Seq.{sets}
+use Rattle.prelude.proofs.Kit.{ℕ, _≤_, _+_, _-_, add-zero, arith, _≡_, sym, _∙_, refl, ap, needs, now, length, drop, length-set, sets}
 use Rattle.transcript.proofs.Writing.{copy-goes-on, copy-ends}
-use borrow.Author.Needs.{needs}
 use Rattle.transcript.proofs.text.write_bytes.Statement.{statement}
 use Rattle.transcript.proofs.text.write_bytes.Tie as tie
 

@@ -1,9 +1,6 @@
 -- `text::write_hex` meets its contract.
-use mathlib.Core.Path.{refl}
-use native.Mathlib.Numerals.{add-one, add-two}
-use native.Mathlib.Omega.{arith}
-use lib.ListN.{length-set}
-use borrow.Author.Needs.{needs}
+use Rattle.prelude.proofs.Kit.{add-one, arith, refl, needs, length-set}
+use native.Mathlib.Numerals.{add-two}
 use Rattle.transcript.proofs.text.write_hex.Statement.{statement}
 use Rattle.transcript.proofs.text.write_hex.Tie as tie
 

@@ -1,11 +1,7 @@
 -- `text::write_number` meets its contract: the digits, and one byte more.
-use Prim.Native.Nat.{_<_}
-use mathlib.Core.List.{[], _∷_}
-use native.Mathlib.Omega.{arith}
-use lib.ListN.{length, length-append}
+use Rattle.prelude.proofs.Kit.{_<_, arith, _∷_, [], needs, length, length-append}
 use Rattle.transcript.specs.Text.{decimal}
 use Rattle.transcript.proofs.Writing.{wrote-byte}
-use borrow.Author.Needs.{needs}
 use Rattle.transcript.proofs.text.write_number.Statement.{statement}
 use Rattle.transcript.proofs.text.write_number.Tie as tie
 

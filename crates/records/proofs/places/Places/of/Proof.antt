@@ -1,6 +1,6 @@
 -- `Places::of` meets its contract: its sums are the layout's.
+use Rattle.prelude.proofs.Kit.{needs}
 use Rattle.records.proofs.Starts.{places-are}
-use borrow.Author.Needs.{needs}
 use Rattle.records.proofs.places.Places.of.Statement.{statement}
 use Rattle.records.proofs.places.Places.of.Tie as tie
 

@@ -1,6 +1,6 @@
 -- `pending::Pending::of` meets its contract: the fields are those of the definition, and bytes.
+use Rattle.prelude.proofs.Kit.{needs}
 use Rattle.machine.specs.Session.{kindOf, originOf, handlerOf, urlOf}
-use borrow.Author.Needs.{needs}
 use Rattle.session.proofs.pending.Pending.of.Statement.{statement}
 use Rattle.session.proofs.pending.Pending.of.Tie as tie
 

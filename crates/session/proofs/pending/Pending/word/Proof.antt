@@ -1,6 +1,6 @@
 -- `pending::Pending::word` meets its contract: the word is that of the definition.
+use Rattle.prelude.proofs.Kit.{needs}
 use Rattle.machine.specs.Session.{packed}
-use borrow.Author.Needs.{needs}
 use Rattle.session.proofs.pending.Pending.word.Statement.{statement}
 use Rattle.session.proofs.pending.Pending.word.Tie as tie
 
