@@ -1,5 +1,5 @@
--- A second list of worked cases: document 01's other examples; what each record does to connections, handlers and cookies; and each
--- condition of the policy where it alone fails.
+-- A second list of worked cases: document 01's other examples; what each record does to connections, handlers and cookies; each condition
+-- of the policy where it alone fails; how scripts end; and which number a record has where several apply.
 use Prim.Native.Nat.{ℕ}
 use mathlib.Core.Bool.{_&&_}
 use mathlib.Core.List.{List, [], _∷_, _++_}
@@ -7,7 +7,7 @@ use lib.Dec.{T}
 use lib.ListN.{take, replicate}
 use Rattle.machine.specs.Scripts.{Step, end, constant, add, readCookie, writeCookie, sendRequest, skipIfZero}
 use Rattle.machine.specs.Machine.{outputRoom}
-use Rattle.machine.specs.Cases.{Words, url, cookieLabel, connection, policyWith, scriptsWith, scriptOf, valueIs, keysAre, loading, requesting, Call, Case, allRight, call, refused, policyP, fromEmpty, loadZero, sevenStored, caseA}
+use Rattle.machine.specs.Cases.{Words, url, cookieLabel, connection, policyWith, scriptsWith, scriptIs, scriptOf, valueIs, keysAre, loading, requesting, Call, Case, allRight, call, refused, policyP, fromEmpty, loadZero, sevenStored, caseA}
 
 -- ---- document 01's other examples
 
@@ -34,10 +34,6 @@ otherExamples =
     -- a load is not asked whether its event endpoint is among the connection's readers, nor for the URL's writers
     ∷ fromEmpty (call (0x03 ∷ 0x00 ∷ 0x02 ∷ []) 0 0 (0x03 ∷ 0x00 ∷ 0x02 ∷ []) (loading 2 0 ∷ []) ∷ [])
     ∷ fromEmpty (call (0x03 ∷ 0x02 ∷ 0x01 ∷ []) 0 0 (0x03 ∷ 0x02 ∷ 0x01 ∷ []) (loading 1 2 ∷ []) ∷ [])
-    -- 3: a script table with a byte too few
-    ∷ record { scripts = replicate 2047 0; room = outputRoom; start = []; calls = refused loadZero 3 [] ∷ [] }
-    -- 4: a presence bit above the eight
-    ∷ record { scripts = scriptsWith []; room = outputRoom; start = keysAre 15 0x100 ∷ []; calls = refused loadZero 4 (keysAre 15 0x100 ∷ []) ∷ [] }
     -- 7: a free connection; another URL; the other kind
     ∷ fromEmpty (refused (0x0b ∷ 0x00 ∷ 0x00 ∷ 0x00 ∷ []) 7 [] ∷ [])
     ∷ fromEmpty (caseA
@@ -66,6 +62,8 @@ policyQ = policyWith (
     ∷ url 3 1 0x2 0xffffffff
     ∷ url 4 1 0xffffffff 0x2
     ∷ url 5 1 0xffffffff 0xffffffff
+    -- at host 1 by https: its readers do not hold its own message endpoint
+    ∷ url 6 17 0x2 0xffffffff
     -- the page's connection: its scripts have S = 0x3 and J = 0x1
     ∷ connection 0 0x7 0x3 0x1
     -- one that its scripts may use for URL 1
@@ -75,6 +73,8 @@ policyQ = policyWith (
     ∷ connection 3 0x3 0x3 0x1
     ∷ connection 4 0x3 0x3 0x2
     ∷ connection 5 0 0 0xf
+    -- one for URL 6
+    ∷ connection 6 0 0 0x20000
     -- host 0: key 0 is stored, read and written by the page on connection 0
     ∷ cookieLabel 0 0 0x3 0x1
     -- more readers than the connection; writers without J; more readers than S, within the connection's
@@ -89,6 +89,8 @@ policyQ = policyWith (
     ∷ cookieLabel 0 7 0x2 0xf
     -- host 1: sent to host 1, stored and written on connection 1
     ∷ cookieLabel 1 0 0x2 0xf
+    -- sent to host 1 by https
+    ∷ cookieLabel 1 1 0x20000 0xf
     ∷ [])
 
 -- with Q: a script table, the state to start from, the record, and its number, steps, bytes sent and state
@@ -120,14 +122,19 @@ pageRuns before code steps sent after = inQ (scriptOf 1 code ∷ []) (pageLoadin
 abbrev pub nineFor : ℕ → ℕ → List Words
 nineFor k keys = valueIs 0 k 9 ∷ keysAre 0 keys ∷ []
 
+-- host 1 has 9 for key 0, and no other key
+abbrev pub hostOneNine : List Words
+hostOneNine = valueIs 1 0 9 ∷ keysAre 1 0x01 ∷ []
+
 -- a script that copies a key's value to key 6
 abbrev pub copyKey : ℕ → List Step
 copyKey k = readCookie 1 k ∷ writeCookie 6 1 ∷ end ∷ []
 
 abbrev pub casesOfConditions : List Case
 casesOfConditions =
-    -- Step 5 where it is allowed: URL 1 on connection 1 with handler 5.
-    pageRuns [] (sendRequest 1 1 5 ∷ end ∷ []) 2 (0x0b ∷ 0x01 ∷ 0x01 ∷ 0x05 ∷ []) (requesting 1 2 5 1 ∷ [])
+    -- Step 5 where it is allowed: URL 1 on connection 1 with handler 15. The request carries a cookie that the script may not read.
+    pageRuns hostOneNine (sendRequest 1 1 15 ∷ end ∷ []) 2
+    (0x0f ∷ 0x01 ∷ 0x01 ∷ 0x01 ∷ 0x00 ∷ 0x00 ∷ 0x00 ∷ 0x09 ∷ 0x0f ∷ []) (requesting 1 2 15 1 ∷ hostOneNine)
     -- the event endpoint of URL 0 is not in S (it is among the connection's readers)
     ∷ pageRuns [] (sendRequest 0 1 5 ∷ end ∷ []) 1 [] []
     -- the readers of connection 2 are not within S (they are within the connection's readers)
@@ -187,10 +194,10 @@ casesOfConnections =
     -- Register 0 is the value, and the sum wraps at 2^32.
     ∷ inQ requestAndHandle handlerWaiting
     (0x17 ∷ 0x01 ∷ 0x01 ∷ 0x01 ∷ 0x00 ∷ 0x00 ∷ 0x00 ∷ 0x09 ∷ 0xff ∷ 0xff ∷ 0xff ∷ 0xff ∷ [])
-    0 4 [] (valueIs 1 0 9 ∷ keysAre 1 0x01 ∷ valueIs 0 6 1 ∷ keysAre 0 0x40 ∷ [])
+    0 4 [] (valueIs 0 6 1 ∷ keysAre 0 0x40 ∷ hostOneNine)
     -- The redirect of a script's request keeps kind, origin and handler; its own request has the handler, and the cookie that it brought.
     ∷ inQ requestAndHandle handlerWaiting (0x27 ∷ 0x01 ∷ 0x01 ∷ 0x01 ∷ 0x00 ∷ 0x00 ∷ 0x00 ∷ 0x09 ∷ 0x05 ∷ []) 0 0
-    (0x0f ∷ 0x05 ∷ 0x01 ∷ 0x01 ∷ 0x00 ∷ 0x00 ∷ 0x00 ∷ 0x09 ∷ 0x02 ∷ []) (requesting 1 2 2 5 ∷ valueIs 1 0 9 ∷ keysAre 1 0x01 ∷ [])
+    (0x0f ∷ 0x05 ∷ 0x01 ∷ 0x01 ∷ 0x00 ∷ 0x00 ∷ 0x00 ∷ 0x09 ∷ 0x02 ∷ []) (requesting 1 2 2 5 ∷ hostOneNine)
     -- A redirect's cookies are the old URL's host's: key 6 of host 0. One that may not be stored, key 0, is passed over.
     ∷ inQ [] (loading 1 2 ∷ [])
     (0x27 ∷ 0x02 ∷ 0x01 ∷ 0x41 ∷ 0x00 ∷ 0x00 ∷ 0x00 ∷ 0x08 ∷ 0x00 ∷ 0x00 ∷ 0x00 ∷ 0x09 ∷ 0x01 ∷ []) 0 0
@@ -198,6 +205,9 @@ casesOfConnections =
     -- Cookies are attached by the URL's message endpoint: key 6 and not key 7. The readers of connection 1 hold those of both; connection 5 has none.
     ∷ inQ [] twoStored (0x03 ∷ 0x02 ∷ 0x01 ∷ []) 0 0 (0x07 ∷ 0x02 ∷ 0x01 ∷ 0x40 ∷ 0x00 ∷ 0x00 ∷ 0x00 ∷ 0x07 ∷ []) (loading 1 2 ∷ twoStored)
     ∷ inQ [] twoStored (0x03 ∷ 0x02 ∷ 0x05 ∷ []) 0 0 (0x07 ∷ 0x02 ∷ 0x05 ∷ 0x40 ∷ 0x00 ∷ 0x00 ∷ 0x00 ∷ 0x07 ∷ []) (loading 5 2 ∷ twoStored)
+    -- Whatever the URL's readers are: those of key 1 of host 1 are not within them, and they do not hold the message endpoint of URL 6.
+    ∷ inQ [] (valueIs 1 1 9 ∷ keysAre 1 0x02 ∷ []) (0x03 ∷ 0x06 ∷ 0x06 ∷ []) 0 0 (0x07 ∷ 0x06 ∷ 0x06 ∷ 0x02 ∷ 0x00 ∷ 0x00 ∷ 0x00 ∷ 0x09 ∷ [])
+    (loading 6 6 ∷ valueIs 1 1 9 ∷ keysAre 1 0x02 ∷ [])
     -- A present cookie of value 0 is attached.
     ∷ inQ [] (keysAre 0 0x40 ∷ []) (0x03 ∷ 0x02 ∷ 0x01 ∷ []) 0 0 (0x07 ∷ 0x02 ∷ 0x01 ∷ 0x40 ∷ 0x00 ∷ 0x00 ∷ 0x00 ∷ 0x00 ∷ []) (loading 1 2 ∷ keysAre 0 0x40 ∷ [])
     -- 7: a document's response to a script's request
@@ -207,12 +217,81 @@ casesOfConnections =
     (valueIs 0 6 0x0102 ∷ keysAre 0 0x40 ∷ [])
     ∷ []
 
--- 2: a policy with a word too few
+-- ---- how a script ends
+
+-- The page's script is one step, given by its bytes, and ends there. Host 0 has key 1, which the script may read.
+abbrev pub endsAt : List ℕ → Case
+endsAt bytes = inQ (scriptIs 1 bytes ∷ []) (pageLoading ++ nineFor 1 0x02) pageResponse 0 1 [] (nineFor 1 0x02)
+
+abbrev pub casesOfEndings : List Case
+casesOfEndings =
+    -- operations that are not known; with these fields a script would go on after each that is
+    endsAt (7 ∷ 1 ∷ 1 ∷ 1 ∷ [])
+    ∷ endsAt (13 ∷ 1 ∷ 1 ∷ 1 ∷ [])
+    -- register 4, wherever a step names a register
+    ∷ endsAt (1 ∷ 4 ∷ 1 ∷ 1 ∷ [])
+    ∷ endsAt (2 ∷ 4 ∷ 1 ∷ 1 ∷ [])
+    ∷ endsAt (2 ∷ 1 ∷ 4 ∷ 1 ∷ [])
+    ∷ endsAt (2 ∷ 1 ∷ 1 ∷ 4 ∷ [])
+    ∷ endsAt (3 ∷ 4 ∷ 1 ∷ 0 ∷ [])
+    ∷ endsAt (4 ∷ 0 ∷ 4 ∷ 0 ∷ [])
+    ∷ endsAt (6 ∷ 4 ∷ 0 ∷ 0 ∷ [])
+    -- step 5: handler 16; URL 67, where the words that follow the rows would make a URL that may be requested
+    ∷ endsAt (5 ∷ 1 ∷ 1 ∷ 16 ∷ [])
+    ∷ endsAt (5 ∷ 67 ∷ 1 ∷ 1 ∷ [])
+    ∷ []
+
+-- ---- the number, where several apply: the first of them
+
+-- a policy with a word too few, for 2; a script table with a byte too few, for 3; a presence bit above the eight, for 4
 abbrev pub shortPolicy : List ℕ
 shortPolicy = take 543 policyP
 
+abbrev pub shortTable : List ℕ
+shortTable = replicate 2047 0
+
+abbrev pub strayBit : List Words
+strayBit = keysAre 15 0x100 ∷ []
+
+-- the empty record is refused with a number
+abbrev pub noRecord : ℕ → List ℕ → List Words → ℕ → Case
+noRecord room scripts start number = record { scripts = scripts; room = room; start = start; calls = refused [] number start ∷ [] }
+
+-- 1 to 5; 2 to 5
+abbrev pub withShortPolicy : List Case
+withShortPolicy = noRecord 1183 shortTable strayBit 1 ∷ noRecord 1184 shortTable strayBit 2 ∷ []
+
+-- 3 to 5; 4 and 5; 6 and 7: there is no script 16, and the connection is free; 7 and 8: it is free, and the target is not allowed
+abbrev pub withPolicyP : List Case
+withPolicyP =
+    noRecord 1184 shortTable strayBit 3
+    ∷ noRecord 1184 (scriptsWith []) strayBit 4
+    ∷ fromEmpty (refused (0x0b ∷ 0x00 ∷ 0x00 ∷ 0x10 ∷ []) 6 [] ∷ [])
+    ∷ fromEmpty (refused (0x23 ∷ 0x00 ∷ 0x00 ∷ 0x02 ∷ []) 7 [] ∷ [])
+    ∷ []
+
+-- 4 and 5: a connection whose URL is 64, and one whose origin is. The words that follow the rows would make of 64 a URL that connection 5 fits.
+-- And a connection that does not fit its URL.
+abbrev pub withPolicyQ : List Case
+withPolicyQ =
+    noRecord 1184 (scriptsWith []) (loading 5 64 ∷ []) 4
+    ∷ noRecord 1184 (scriptsWith []) (requesting 5 64 0 1 ∷ []) 4
+    ∷ noRecord 1184 (scriptsWith []) (loading 1 3 ∷ []) 4
+    ∷ []
+
+-- 2 and 5, where the last row has no address and a set that is not empty
+abbrev pub withLastRow : List Case
+withLastRow = noRecord 1184 (scriptsWith []) [] 2 ∷ []
+
+-- 5 and 6: no URL has a row, not even 0, which the fields of a record that cannot be read name
+abbrev pub withNoUrl : List Case
+withNoUrl = noRecord 1184 (scriptsWith []) [] 5 ∷ []
+
 abbrev pub MoreCases : Type 0
 MoreCases = T (
-    allRight policyP otherExamples
-    && (allRight shortPolicy (fromEmpty (refused loadZero 2 [] ∷ []) ∷ [])
-    && allRight policyQ (casesOfConditions ++ casesOfConnections)))
+    allRight policyP (otherExamples ++ withPolicyP)
+    && (allRight policyQ (casesOfConditions ++ (casesOfConnections ++ (casesOfEndings ++ withPolicyQ)))
+    && (allRight shortPolicy withShortPolicy
+    && (allRight (policyWith (url 63 255 1 0 ∷ [])) withLastRow
+    && (allRight (policyWith (url 63 255 0 1 ∷ [])) withLastRow
+    && allRight (policyWith []) withNoUrl)))))
