@@ -19,12 +19,6 @@ module _ {A : Type 0} (x : A) where
   first-is zero (r ∷ rs) none e = rw e
   first-is (suc n) (r ∷ rs) none e = rw (none .0) (first-is n rs (none .1) e)
 
-  -- one test more that does not apply
-  pub none-next : (n : ℕ) (rs : List (Refusal A)) → NoneOf (take n rs) → nth n rs .applies ≡ false → NoneOf (take (suc n) rs)
-  none-next n [] none e = tt
-  none-next zero (r ∷ rs) none e = (e, tt)
-  none-next (suc n) (r ∷ rs) none e = (none .0, none-next n rs (none .1) e)
-
   pub none-applies : (rs : List (Refusal A)) → NoneOf rs → firstOf rs x ≡ x
   unfolding firstOf branch
   none-applies [] none = refl

@@ -3,9 +3,9 @@ use Rattle.prelude.proofs.Kit.{ℕ, List, _≡_, sym, subst, needs, now}
 use Rattle.machine.specs.Session.{free, kindOf, originOf, handlerOf, urlOf, setConnection, send}
 use Rattle.machine.specs.Scripts.{runScript}
 use Rattle.machine.specs.Machine.{receive, Fed}
+use Rattle.policy.specs.Given.{Url}
 use Rattle.monitor.specs.declared.events.Arrived.{Arrived}
 use Rattle.monitor.specs.declared.events.Arrived.the-variants.{DocumentResponse, ScriptResponse, Redirect}
-use Rattle.policy.specs.Given.{Url}
 use Rattle.monitor.specs.Answers.{done}
 use Rattle.monitor.specs.Events.{told}
 use Rattle.monitor.specs.Given.{Names, Holds}

@@ -5,7 +5,6 @@ use Rattle.records.specs.declared.Record.{Record}
 use Rattle.records.specs.Layout.{load}
 use Rattle.machine.specs.Machine.{Arrived, Event, Load, Arrival, plainMap, cookiesOf, arrivedOf, eventOf}
 use Rattle.monitor.specs.Answers.{reaction}
-use Rattle.monitor.specs.Events.{told}
 use Rattle.monitor.proofs.refusals.react.Statement.{statement}
 use Rattle.monitor.proofs.refusals.react.Tie as tie
 
