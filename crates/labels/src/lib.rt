@@ -38,7 +38,8 @@ impl EndpointSet {
     // The set of `endpoint` alone; empty where it is above 31. Said here too: the two constants are the definitions' sets.
     pub fn only(endpoint: u32) -> EndpointSet
         ensures singleton { λ r. ⌜ r .bits ≡ only endpoint ⌝ }
-        ensures constants { λ _. do ⌜ ((← ⟦EndpointSet::EMPTY.bits⟧ .entry) ≡ empty) × ((← ⟦EndpointSet::ALL.bits⟧ .entry) ≡ all) ⌝ }
+        ensures constants { λ _. do
+          ⌜ ((← ⟦EndpointSet::EMPTY.bits⟧ .entry) ≡ empty) × ((← ⟦EndpointSet::ALL.bits⟧ .entry) ≡ all) ⌝ }
     {
         if LAST_ENDPOINT < endpoint {
             return EndpointSet::EMPTY;

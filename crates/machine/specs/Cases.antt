@@ -192,9 +192,13 @@ casesAToJ =
     -- g, after e
     ∷ fromEmpty (caseA ∷ caseE ∷ call (0x03 ∷ 0x03 ∷ 0x03 ∷ []) 0 0 (0x03 ∷ 0x03 ∷ 0x03 ∷ []) (loading 3 3 ∷ sevenStored) ∷ [])
     -- h, after a: the cookie that the redirect brings is not stored
-    ∷ fromEmpty (caseA ∷ refused (0x27 ∷ 0x00 ∷ 0x00 ∷ 0x01 ∷ 0x00 ∷ 0x00 ∷ 0x00 ∷ 0x09 ∷ 0x02 ∷ []) 8 (loading 0 0 ∷ []) ∷ [])
+    ∷ fromEmpty (caseA
+    ∷ refused (0x27 ∷ 0x00 ∷ 0x00 ∷ 0x01 ∷ 0x00 ∷ 0x00 ∷ 0x00 ∷ 0x09 ∷ 0x02 ∷ []) 8 (loading 0 0 ∷ [])
+    ∷ [])
     -- i: a load that is accepted, and its redirect
-    ∷ fromEmpty (call (0x03 ∷ 0x01 ∷ 0x01 ∷ []) 0 0 (0x03 ∷ 0x01 ∷ 0x01 ∷ []) (loading 1 1 ∷ []) ∷ refused (0x23 ∷ 0x01 ∷ 0x01 ∷ 0x02 ∷ []) 9 (loading 1 1 ∷ []) ∷ [])
+    ∷ fromEmpty (call (0x03 ∷ 0x01 ∷ 0x01 ∷ []) 0 0 (0x03 ∷ 0x01 ∷ 0x01 ∷ []) (loading 1 1 ∷ [])
+    ∷ refused (0x23 ∷ 0x01 ∷ 0x01 ∷ 0x02 ∷ []) 9 (loading 1 1 ∷ [])
+    ∷ [])
     -- j: the empty record; a request's map; a key map of 0
     ∷ fromEmpty (refused [] 5 [] ∷ [])
     ∷ fromEmpty (refused (0x07 ∷ 0x00 ∷ 0x00 ∷ 0x01 ∷ 0x00 ∷ 0x00 ∷ 0x00 ∷ 0x07 ∷ []) 5 [] ∷ [])

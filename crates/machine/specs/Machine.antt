@@ -13,7 +13,8 @@ use Rattle.records.specs.Bytes.{bit}
 use Rattle.records.specs.Layout.{keyNumbers, cookiesBit, load, documentResponse, scriptResponse, longest}
 use Rattle.records.specs.Codec.{readRefusals, decoded, writeRun}
 use Rattle.machine.specs.Policy.{urlHost, wellFormed, isUrl, isConnection, loadReaders, loadWriters, redirectReaders, redirectWriters}
-use Rattle.machine.specs.Session.{free, documentKind, scriptKind, connectionWord, kindOf, originOf, handlerOf, urlOf, sound, has, Cookie, storeCookies, setConnection, Effects, send}
+use Rattle.machine.specs.Session.{free, documentKind, scriptKind, connectionWord, kindOf, originOf, handlerOf, urlOf, sound}
+use Rattle.machine.specs.Session.{has, Cookie, storeCookies, setConnection, Effects, send}
 use Rattle.machine.specs.Scripts.{stepLimit, tableBytes, isScript, stopped, runScript}
 
 -- ---- what a record says

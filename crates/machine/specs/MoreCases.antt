@@ -7,7 +7,8 @@ use lib.Dec.{T}
 use lib.ListN.{take, replicate}
 use Rattle.machine.specs.Scripts.{Step, end, constant, add, readCookie, writeCookie, sendRequest, skipIfZero}
 use Rattle.machine.specs.Machine.{outputRoom}
-use Rattle.machine.specs.Cases.{Words, url, cookieLabel, connection, policyWith, scriptsWith, scriptIs, scriptOf, valueIs, keysAre, loading, requesting, Call, Case, allRight, call, refused, policyP, fromEmpty, loadZero, sevenStored, caseA}
+use Rattle.machine.specs.Cases.{Words, url, cookieLabel, connection, policyWith, scriptsWith, scriptIs, scriptOf, valueIs, keysAre}
+use Rattle.machine.specs.Cases.{loading, requesting, Call, Case, allRight, call, refused, policyP, fromEmpty, loadZero, sevenStored, caseA}
 
 -- ---- document 01's other examples
 
@@ -157,7 +158,9 @@ casesOfConditions =
     ∷ pageRuns [] (constant 1 9 ∷ writeCookie 3 1 ∷ writeCookie 2 1 ∷ writeCookie 0 1 ∷ end ∷ []) 5 [] (nineFor 0 0x01)
     -- Delivered: the readers of key 1 are not within the connection's, and its writers not within those of key 2; these are passed over. Key 3
     -- goes by the connection's readers, and not by S.
-    ∷ inQ [] pageLoading (0x0f ∷ 0x02 ∷ 0x00 ∷ 0x0e ∷ 0x00 ∷ 0x00 ∷ 0x00 ∷ 0x07 ∷ 0x00 ∷ 0x00 ∷ 0x00 ∷ 0x08 ∷ 0x00 ∷ 0x00 ∷ 0x00 ∷ 0x09 ∷ 0x00 ∷ []) 0 1 []
+    ∷ inQ [] pageLoading
+    (0x0f ∷ 0x02 ∷ 0x00 ∷ 0x0e ∷ 0x00 ∷ 0x00 ∷ 0x00 ∷ 0x07 ∷ 0x00 ∷ 0x00 ∷ 0x00 ∷ 0x08
+    ∷ 0x00 ∷ 0x00 ∷ 0x00 ∷ 0x09 ∷ 0x00 ∷ []) 0 1 []
     (nineFor 3 0x08)
     -- A redirect of connection 1 where it is allowed, to URL 1.
     ∷ inQ [] (loading 1 2 ∷ []) (0x23 ∷ 0x02 ∷ 0x01 ∷ 0x01 ∷ []) 0 0 (0x03 ∷ 0x01 ∷ 0x01 ∷ []) (loading 1 1 ∷ [])
@@ -189,7 +192,8 @@ casesOfConnections =
     -- A script's request replaces what was pending.
     ∷ inQ requestAndHandle (loading 1 2 ∷ pageLoading) pageResponse 0 2 (0x0b ∷ 0x01 ∷ 0x01 ∷ 0x02 ∷ []) (requesting 1 2 2 1 ∷ [])
     -- A script opens again the connection that it came on.
-    ∷ inQ requestAndHandle (loading 1 2 ∷ []) (0x0b ∷ 0x02 ∷ 0x01 ∷ 0x01 ∷ []) 0 2 (0x0b ∷ 0x01 ∷ 0x01 ∷ 0x02 ∷ []) (requesting 1 2 2 1 ∷ [])
+    ∷ inQ requestAndHandle (loading 1 2 ∷ []) (0x0b ∷ 0x02 ∷ 0x01 ∷ 0x01 ∷ []) 0 2
+    (0x0b ∷ 0x01 ∷ 0x01 ∷ 0x02 ∷ []) (requesting 1 2 2 1 ∷ [])
     -- The handler runs at the host of the page, which is host 0, and not at host 1, which answers and whose key 0 the response brings.
     -- Register 0 is the value, and the sum wraps at 2^32.
     ∷ inQ requestAndHandle handlerWaiting
@@ -203,17 +207,22 @@ casesOfConnections =
     (0x27 ∷ 0x02 ∷ 0x01 ∷ 0x41 ∷ 0x00 ∷ 0x00 ∷ 0x00 ∷ 0x08 ∷ 0x00 ∷ 0x00 ∷ 0x00 ∷ 0x09 ∷ 0x01 ∷ []) 0 0
     (0x03 ∷ 0x01 ∷ 0x01 ∷ []) (loading 1 1 ∷ valueIs 0 6 9 ∷ keysAre 0 0x40 ∷ [])
     -- Cookies are attached by the URL's message endpoint: key 6 and not key 7. The readers of connection 1 hold those of both; connection 5 has none.
-    ∷ inQ [] twoStored (0x03 ∷ 0x02 ∷ 0x01 ∷ []) 0 0 (0x07 ∷ 0x02 ∷ 0x01 ∷ 0x40 ∷ 0x00 ∷ 0x00 ∷ 0x00 ∷ 0x07 ∷ []) (loading 1 2 ∷ twoStored)
-    ∷ inQ [] twoStored (0x03 ∷ 0x02 ∷ 0x05 ∷ []) 0 0 (0x07 ∷ 0x02 ∷ 0x05 ∷ 0x40 ∷ 0x00 ∷ 0x00 ∷ 0x00 ∷ 0x07 ∷ []) (loading 5 2 ∷ twoStored)
+    ∷ inQ [] twoStored (0x03 ∷ 0x02 ∷ 0x01 ∷ []) 0 0
+    (0x07 ∷ 0x02 ∷ 0x01 ∷ 0x40 ∷ 0x00 ∷ 0x00 ∷ 0x00 ∷ 0x07 ∷ []) (loading 1 2 ∷ twoStored)
+    ∷ inQ [] twoStored (0x03 ∷ 0x02 ∷ 0x05 ∷ []) 0 0
+    (0x07 ∷ 0x02 ∷ 0x05 ∷ 0x40 ∷ 0x00 ∷ 0x00 ∷ 0x00 ∷ 0x07 ∷ []) (loading 5 2 ∷ twoStored)
     -- Whatever the URL's readers are: those of key 1 of host 1 are not within them, and they do not hold the message endpoint of URL 6.
     ∷ inQ [] (valueIs 1 1 9 ∷ keysAre 1 0x02 ∷ []) (0x03 ∷ 0x06 ∷ 0x06 ∷ []) 0 0 (0x07 ∷ 0x06 ∷ 0x06 ∷ 0x02 ∷ 0x00 ∷ 0x00 ∷ 0x00 ∷ 0x09 ∷ [])
     (loading 6 6 ∷ valueIs 1 1 9 ∷ keysAre 1 0x02 ∷ [])
     -- A present cookie of value 0 is attached.
-    ∷ inQ [] (keysAre 0 0x40 ∷ []) (0x03 ∷ 0x02 ∷ 0x01 ∷ []) 0 0 (0x07 ∷ 0x02 ∷ 0x01 ∷ 0x40 ∷ 0x00 ∷ 0x00 ∷ 0x00 ∷ 0x00 ∷ []) (loading 1 2 ∷ keysAre 0 0x40 ∷ [])
+    ∷ inQ [] (keysAre 0 0x40 ∷ []) (0x03 ∷ 0x02 ∷ 0x01 ∷ []) 0 0
+    (0x07 ∷ 0x02 ∷ 0x01 ∷ 0x40 ∷ 0x00 ∷ 0x00 ∷ 0x00 ∷ 0x00 ∷ []) (loading 1 2 ∷ keysAre 0 0x40 ∷ [])
     -- 7: a document's response to a script's request
     ∷ refusedInQ handlerWaiting (0x0b ∷ 0x01 ∷ 0x01 ∷ 0x00 ∷ []) 7
     -- One skip is taken, over two steps; the next is not, as register 1 is not 0. Key 8 ends the script.
-    ∷ pageRuns [] (skipIfZero 0 2 ∷ writeCookie 5 0 ∷ end ∷ constant 1 0x0102 ∷ skipIfZero 1 1 ∷ writeCookie 6 1 ∷ writeCookie 8 1 ∷ writeCookie 0 1 ∷ []) 5 []
+    ∷ pageRuns []
+    (skipIfZero 0 2 ∷ writeCookie 5 0 ∷ end ∷ constant 1 0x0102 ∷ skipIfZero 1 1
+    ∷ writeCookie 6 1 ∷ writeCookie 8 1 ∷ writeCookie 0 1 ∷ []) 5 []
     (valueIs 0 6 0x0102 ∷ keysAre 0 0x40 ∷ [])
     ∷ []
 

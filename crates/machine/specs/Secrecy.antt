@@ -14,7 +14,8 @@ use Rattle.labels.specs.Addresses.{hosts}
 use Rattle.records.specs.declared.Direction.the-variants.{Input, Request}
 use Rattle.records.specs.declared.Record.{Record}
 use Rattle.records.specs.Codec.{decoded, readRun}
-use Rattle.machine.specs.Policy.{hostKeys, connections, cookieIndex, urlReaders, cookieReaders, connectionReaders, urlHost, urlMessage, urlEvent, wellFormed}
+use Rattle.machine.specs.Policy.{hostKeys, connections, cookieIndex, urlReaders, cookieReaders, connectionReaders}
+use Rattle.machine.specs.Policy.{urlHost, urlMessage, urlEvent, wellFormed}
 use Rattle.machine.specs.Session.{emptyState, cookieValue, present, connectionWord, Cookie}
 use Rattle.machine.specs.Machine.{Event, Load, Arrival, plainMap, cookiesOf, eventOf, named, outputRoom, feed}
 
