@@ -33,8 +33,9 @@
 //! assert_eq!(unknown.unwrap_err().number(), 6);
 //! ```
 //!
-//! What the monitor promises about secrecy it promises for a session as a whole: the same policy and the same script table throughout, and
-//! a state that nobody else writes between calls.
+//! What the monitor promises about secrecy it promises for a session as a whole: from a state of zeros on, the same policy and the same
+//! script table throughout, and a state that nobody else writes between calls. It is a promise about the requests and the state. What
+//! [`feed`] answers is for the caller alone: it may depend on what others must not learn.
 //!
 //! # Buffers
 //!

@@ -1,4 +1,5 @@
-//! The monitor in plain Rust, written from document 01 alone.
+//! The monitor in plain Rust, made from document 01 without the definitions and
+//! the proved code at hand.
 //!
 //! [`feed`] follows the document rule by rule. [`feed_fast`] gives the same
 //! results without allocation and is tuned for speed. [`walk`] is the
