@@ -43,7 +43,7 @@
 //! |---|---|---|
 //! | policy | [`POLICY_WORDS`] | words 0 to 191: 64 URLs of address, readers, writers ([`NO_URL`] where there is none); 192 to 447: readers and writers of the cookie of host h and key k, at 192 + 2 (8 h + k); 448 to 543: 32 connections of readers, script readers, writers |
 //! | script table | [`SCRIPT_BYTES`] | 16 scripts of 32 steps of 4 bytes: op, a, b, c |
-//! | state | [`STATE_WORDS`] | words 0 to 127: the values of cookies, at 8 h + k; 128 to 143: for each host, the keys present as bits 0 to 7; 144 to 175: connections, 0 where free, else kind << 24 \| origin << 16 \| handler << 8 \| URL |
+//! | state | [`STATE_WORDS`] | words 0 to 127: the values of cookies, at 8 h + k; 128 to 143: for each host, the keys present as bits 0 to 7; 144 to 175: connections, 0 where free, else kind << 24 \| origin << 16 \| handler << 8 \| URL, where kind is 1 for a document (origin and handler 0) and 2 for a script's request |
 //! | output | [`OUT_BYTES`] or more | requests, one right after another |
 //!
 //! An address is an endpoint, 0 to 31: http at host a for a below 16, https at host a - 16 from there on. A set of endpoints is a
@@ -122,8 +122,8 @@ refusals! {
     /// The script table does not have [`SCRIPT_BYTES`] bytes.
     ScriptsBad = 3, "the script table has the wrong length";
     /// The state does not have [`STATE_WORDS`] words, or is not sound: a value of a cookie that is not present, a key above 7, or a
-    /// connection that is none, names a URL that the policy does not have, or does not fit its URL. A state of zeros is sound, and a
-    /// state that is sound under a policy stays sound under it, whatever is fed.
+    /// connection whose word is not as in the table of buffers, names a URL that the policy does not have, or does not fit its URL. A
+    /// state of zeros is sound, and a state that is sound under a policy stays sound under it, whatever is fed.
     StateUnsound = 4, "the state has the wrong length or is not sound";
     /// The record is malformed: no input map, cut short, too long, or cookies with an empty key map.
     Malformed = 5, "the record is malformed";
@@ -155,7 +155,7 @@ impl core::error::Error for Refusal {}
 /// # Panics
 ///
 /// Where the library answers a number that is none of [`Refusal`]. By its contract it never does: the `libmonitor.a` that is linked would
-/// have to be of another version than this crate. Such a record is refused too, and has changed nothing.
+/// have to be of another version than this crate. What such a call has changed cannot be said here.
 #[inline]
 pub fn feed(
     policy: &[u32],

@@ -6,7 +6,7 @@ use lib.ListN.{length}
 use Rattle.machine.specs.Session.{stateWords}
 use Rattle.policy.specs.Given.{WellFormed}
 
--- a policy that 2 does not refuse, and a state of its length
+-- a policy that 2 does not refuse, and a state of as many words as a state has
 pub record Session (p s : List ℕ) : Type 0 where
   pub policy : WellFormed p
   pub whole : length s ≡ stateWords

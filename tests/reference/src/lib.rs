@@ -1,5 +1,5 @@
-//! The monitor in plain Rust, made from document 01 without the definitions and
-//! the proved code at hand.
+//! The monitor in plain Rust, from document 01: it shares no definition and no
+//! code with the proof.
 //!
 //! [`feed`] follows the document rule by rule. [`feed_fast`] gives the same
 //! results without allocation and is tuned for speed. [`walk`] is the
