@@ -5,9 +5,8 @@ use borrow.Author.Tests.{eqb-true}
 use Rattle.prelude.specs.Refusals.{accepted}
 use Rattle.prelude.proofs.Refusals.{NoneOf, nth, first-is, none-applies, none-applied}
 use Rattle.records.specs.declared.Direction.{Direction}
-use Rattle.records.specs.Layout.{maps, widths, size}
+use Rattle.records.specs.Layout.{maps, widths, start, size}
 use Rattle.records.specs.Codec.{malformed, refused, isOneOf, keysMissing, mapOf, keysOf, mapUnknown, keysZero, lengthOther, readRefusals, readRefusal, fieldsOf, decoded}
-use Rattle.records.specs.Places.{start}
 
 -- the place after the last field is the length
 pub end-is-size : (m keys : ℕ) → start 14 m keys ≡ size m keys

@@ -4,8 +4,8 @@ use native.Mathlib.Nat.{div-eq-of-lt}
 use lib.Count.{ones, ones-step}
 use lib.Pow.{shr-shr}
 use Rattle.records.specs.Bytes.{bit}
-use Rattle.records.specs.Layout.{keyNumbers, widths, sum}
-use Rattle.records.specs.Places.{start, placesOf}
+use Rattle.records.specs.Layout.{keyNumbers, widths, start, sum}
+use Rattle.records.specs.Places.{placesOf}
 
 -- the ones of the digits from j on: digit j, and those after it
 ones-from : (n j : ℕ) → ones (n / 2 ^ j) ≡ bit n j + ones (n / 2 ^ (j + 1))

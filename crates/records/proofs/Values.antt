@@ -3,9 +3,9 @@ use Rattle.prelude.proofs.Kit.{ℕ, suc, zero, _*_, one-mul, List, _∷_, [], _
 use Rattle.prelude.proofs.Kit.{drop-drop}
 use Rattle.records.specs.declared.Record.{Record}
 use Rattle.records.specs.Bytes.{bit, number}
-use Rattle.records.specs.Layout.{widths, sum, split, fromValues}
+use Rattle.records.specs.Layout.{widths, start, sum, split, fromValues}
 use Rattle.records.specs.Codec.{mapOf, keysOf, fieldsOf}
-use Rattle.records.specs.Places.{start, cookieWidths}
+use Rattle.records.specs.Places.{cookieWidths}
 use Rattle.records.proofs.Joining.{length-split, spelt, spelt-is}
 
 -- what is taken apart, from field i on

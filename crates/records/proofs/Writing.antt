@@ -4,9 +4,9 @@ use Rattle.prelude.proofs.Kit.{_∙_, refl, ap, subst, length, take, sets}
 use native.Mathlib.Nat.{add-assoc}
 use Rattle.records.specs.declared.Record.{Record}
 use Rattle.records.specs.Bytes.{bit, digits}
-use Rattle.records.specs.Layout.{widths, sum, join, values, size}
+use Rattle.records.specs.Layout.{widths, start, sum, join, values, size}
 use Rattle.records.specs.Codec.{bytesOf}
-use Rattle.records.specs.Places.{start, frontWidths, cookieWidths, backWidths}
+use Rattle.records.specs.Places.{frontWidths, cookieWidths, backWidths}
 use Rattle.records.proofs.Digits.{length-digits}
 use Rattle.records.proofs.Joining.{length-join, spelt, spelt-is, with-cookies}
 use Rattle.records.proofs.Cookies.{sets-append}

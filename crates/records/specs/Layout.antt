@@ -97,6 +97,10 @@ abbrev pub sum : List ℕ → ℕ
 sum [] = 0
 sum (n ∷ ns) = n + sum ns
 
+-- the place where field i of the layout begins: after the map byte and the fields before it
+unfoldable pub start : ℕ → ℕ → ℕ → ℕ
+start i m keys = 1 + sum (take i (widths m keys))
+
 -- how many bytes a record with this map and key map has, the map byte included
 unfoldable pub size : ℕ → ℕ → ℕ
 size m keys = 1 + sum (widths m keys)

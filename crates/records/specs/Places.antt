@@ -1,14 +1,10 @@
--- Where fields begin and how many bytes groups of them have, for the contracts of the functions within the crate.
+-- The places of a record's fields together, and how many bytes groups of fields have, for the contracts of the functions within the crate.
 -- Decoding and encoding are defined without this file.
-use Prim.Native.Nat.{ℕ, _+_}
+use Prim.Native.Nat.{ℕ}
 use mathlib.Core.List.{List}
 use lib.ListN.{take, drop}
 use Rattle.records.specs.declared.places.Places.{Places}
-use Rattle.records.specs.Layout.{widths, sum}
-
--- the place where field i begins: after the map byte and the fields before it
-unfoldable pub start : ℕ → ℕ → ℕ → ℕ
-start i m keys = 1 + sum (take i (widths m keys))
+use Rattle.records.specs.Layout.{widths, start}
 
 -- the places of a record's fields, as the code keeps them: field 0, the URL, is at 1
 unfoldable pub placesOf : ℕ → ℕ → Places

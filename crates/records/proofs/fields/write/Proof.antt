@@ -1,8 +1,8 @@
 -- `fields::write` meets its contract: the three parts are written one after another, each at its place.
 use Rattle.prelude.proofs.Kit.{_≤_, _+_, arith, _≡_, _∙_, ap, needs, now, length}
 use Rattle.records.specs.declared.places.Places.{Places}
-use Rattle.records.specs.Layout.{sum, size}
-use Rattle.records.specs.Places.{start as from, placesOf, cookieWidths, backWidths}
+use Rattle.records.specs.Layout.{start as from, sum, size}
+use Rattle.records.specs.Places.{placesOf, cookieWidths, backWidths}
 use Rattle.records.proofs.Decoding.{end-is-size}
 use Rattle.records.proofs.Writing.{size-split, script-start, written-in-turn}
 use Rattle.records.proofs.fields.write.Statement.{statement}
