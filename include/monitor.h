@@ -59,7 +59,7 @@ enum {
     MONITOR_LONGEST_REQUEST = 37
 };
 
-/* The number of an answer: the first of these that applies. */
+/* The number of an answer: the first of these that applies, in this order. */
 enum monitor_number {
     MONITOR_ACCEPTED = 0,
     /* the output has fewer than MONITOR_OUT_BYTES bytes, however few this record needs */
@@ -73,8 +73,14 @@ enum monitor_number {
      * is not as described above, names a URL that the policy does not have, or does not fit its URL (a load of it would give 8 or 9).
      * A state of zeros is sound, and a state that is sound under a policy stays sound under it, whatever is fed. */
     MONITOR_STATE_UNSOUND = 4,
-    /* the record is malformed: no input map, cut short, too long, or cookies with an empty key map */
-    MONITOR_MALFORMED = 5,
+    /* Malformed, in three ways. Unknown kind: the record is empty, or its map byte is none of those that are fed (see Records below), as
+     * from a newer sender. */
+    MONITOR_KIND_UNKNOWN = 10,
+    /* empty key map: the map byte says that cookies follow, and the key map byte is there and 0, whatever the record's length */
+    MONITOR_KEY_MAP_EMPTY = 12,
+    /* cut or too long: the record does not have the length that its map byte and key map call for, as a torn line; also where it ends
+     * before its key map byte */
+    MONITOR_CUT_OR_TOO_LONG = 11,
     /* the record names a URL or target that the policy does not have, a connection above 31 or a script above 15 */
     MONITOR_NAME_UNKNOWN = 6,
     /* a response or redirect on a connection that is free or holds another URL, or a response of the other kind */

@@ -54,7 +54,9 @@ static bool is_number(uint32_t number)
     case MONITOR_POLICY_BAD:
     case MONITOR_SCRIPTS_BAD:
     case MONITOR_STATE_UNSOUND:
-    case MONITOR_MALFORMED:
+    case MONITOR_KIND_UNKNOWN:
+    case MONITOR_KEY_MAP_EMPTY:
+    case MONITOR_CUT_OR_TOO_LONG:
     case MONITOR_NAME_UNKNOWN:
     case MONITOR_NOT_AWAITED:
     case MONITOR_READERS_FORBID:
@@ -202,10 +204,15 @@ static void cookies(void)
 static void malformed(void)
 {
     small_post();
-    gives("case j, empty", NOTHING, 0, REFUSED(MONITOR_MALFORMED), NOTHING);
-    gives("case j, map 07", BYTES(0x07, 0, 0, 0x01, 0, 0, 0, 7), REFUSED(MONITOR_MALFORMED), NOTHING);
-    gives("case j, map 07 alone", BYTES(0x07), REFUSED(MONITOR_MALFORMED), NOTHING);
-    gives("case j, key map 00", BYTES(0x0f, 0, 0, 0, 0), REFUSED(MONITOR_MALFORMED), NOTHING);
+    gives("case j, empty", NOTHING, 0, REFUSED(MONITOR_KIND_UNKNOWN), NOTHING);
+    gives("case j, map 07", BYTES(0x07, 0, 0, 0x01, 0, 0, 0, 7), REFUSED(MONITOR_KIND_UNKNOWN), NOTHING);
+    gives("case j, map 07 alone", BYTES(0x07), REFUSED(MONITOR_KIND_UNKNOWN), NOTHING);
+    gives("case j, key map 00", BYTES(0x0f, 0, 0, 0, 0), REFUSED(MONITOR_KEY_MAP_EMPTY), NOTHING);
+    gives("key map 00, cut after it", BYTES(0x0f, 0, 0, 0), REFUSED(MONITOR_KEY_MAP_EMPTY), NOTHING);
+    gives("key map 00, a byte too many", BYTES(0x0f, 0, 0, 0, 0, 0), REFUSED(MONITOR_KEY_MAP_EMPTY), NOTHING);
+    gives("no key map", BYTES(0x0f, 0, 0), REFUSED(MONITOR_CUT_OR_TOO_LONG), NOTHING);
+    gives("a load that is cut", BYTES(0x03, 0), REFUSED(MONITOR_CUT_OR_TOO_LONG), NOTHING);
+    gives("a load that is too long", BYTES(0x03, 0, 0, 0), REFUSED(MONITOR_CUT_OR_TOO_LONG), NOTHING);
 }
 
 /* After e and a second load, a script that reads key 0 is stopped in connection 0 and goes on in connection 2. */
@@ -249,7 +256,8 @@ static void wrong_lengths(void)
     lengths_of("length of the state", RIGHT.state, &n.state, &n, MONITOR_STATE_UNSOUND, false);
     lengths_of("length of the output", RIGHT.out, &n.out, &n, MONITOR_OUTPUT_SHORT, true);
     /* the first that applies */
-    static const uint32_t order[] = {MONITOR_OUTPUT_SHORT, MONITOR_POLICY_BAD, MONITOR_SCRIPTS_BAD, MONITOR_STATE_UNSOUND, MONITOR_MALFORMED};
+    static const uint32_t order[] = {MONITOR_OUTPUT_SHORT, MONITOR_POLICY_BAD, MONITOR_SCRIPTS_BAD, MONITOR_STATE_UNSOUND,
+                                     MONITOR_KIND_UNKNOWN};
     struct lengths wrong = {RIGHT.policy + 1, RIGHT.scripts - 1, RIGHT.state + 1, RIGHT.out - 1};
     size_t *const parts[] = {&wrong.out, &wrong.policy, &wrong.scripts, &wrong.state};
     const size_t rights[] = {RIGHT.out, RIGHT.policy, RIGHT.scripts, RIGHT.state};
@@ -272,7 +280,7 @@ static uint32_t number_without(unsigned null)
            : null & POLICY  ? MONITOR_POLICY_BAD
            : null & SCRIPTS ? MONITOR_SCRIPTS_BAD
            : null & STATE   ? MONITOR_STATE_UNSOUND
-           : null & RECORD  ? MONITOR_MALFORMED
+           : null & RECORD  ? MONITOR_KIND_UNKNOWN
                             : MONITOR_ACCEPTED;
 }
 

@@ -46,11 +46,11 @@ pub fn all() -> Vec<Workload> {
             self::dense(make_accepted),
         ),
         barred(
-            "policy P, refused by its form (number 5)",
+            "policy P, refused by its form (number 10)",
             vec![with(&small, &[])],
         ),
         barred(
-            "dense policies, refused by their form (number 5)",
+            "dense policies, refused by their form (number 10)",
             each_with(&dense, &[]),
         ),
         single(
@@ -91,7 +91,7 @@ fn each_with(sessions: &[Session], record: &[u8]) -> Vec<Session> {
         .collect()
 }
 
-/// A card is topped up under document 01's policy P. Ten records are accepted, three are refused: 8, 7 and 5.
+/// A card is topped up under document 01's policy P. Ten records are accepted, three are refused: 8, 7 and 11.
 pub fn small_post() -> Session {
     let records: [&[u8]; 13] = [
         &[0x03, 0, 0],                      // the page is loaded

@@ -125,8 +125,14 @@ refusals! {
     /// connection whose word is not as in the table of buffers, names a URL that the policy does not have, or does not fit its URL. A
     /// state of zeros is sound, and a state that is sound under a policy stays sound under it, whatever is fed.
     StateUnsound = 4, "the state has the wrong length or is not sound";
-    /// The record is malformed: no input map, cut short, too long, or cookies with an empty key map.
-    Malformed = 5, "the record is malformed";
+    /// The record is malformed, of an unknown kind: it is empty, or its map byte is none of those that are fed, as from a newer sender.
+    KindUnknown = 10, "the record is of no known kind";
+    /// The record is malformed, with an empty key map: its map byte says that cookies follow, and the key map byte is there and 0, whatever
+    /// the length.
+    KeyMapEmpty = 12, "the record's key map is empty";
+    /// The record is malformed, cut or too long: it does not have the length that its map byte and key map call for, as a torn line; also
+    /// where it ends before its key map byte.
+    CutOrTooLong = 11, "the record is cut or too long";
     /// The record names a URL or target that the policy does not have, a connection above 31 or a script above 15.
     NameUnknown = 6, "the record names a URL, connection or script that there is not";
     /// A response or redirect on a connection that is free or holds another URL, or a response of the other kind.

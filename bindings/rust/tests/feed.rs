@@ -67,9 +67,14 @@ fn a_cookie_comes_with_a_response_and_goes_with_the_next_load() {
 
 #[test]
 fn records_are_refused_by_name_and_change_nothing() {
-    let refused: [(&[u8], Refusal); 6] = [
-        (&[], Refusal::Malformed),
-        (&[0x0f, 0, 0, 0, 0], Refusal::Malformed),
+    let refused: [(&[u8], Refusal); 11] = [
+        (&[], Refusal::KindUnknown),
+        (&[0x07, 0, 0, 0x01, 0, 0, 0, 7], Refusal::KindUnknown),
+        (&[0x0f, 0, 0, 0, 0], Refusal::KeyMapEmpty),
+        (&[0x0f, 0, 0, 0], Refusal::KeyMapEmpty),
+        (&[0x0f, 0, 0], Refusal::CutOrTooLong),
+        (&[0x03, 0], Refusal::CutOrTooLong),
+        (&[0x03, 0, 0, 0], Refusal::CutOrTooLong),
         (&[0x03, 64, 0], Refusal::NameUnknown),
         (&[0x0b, 0, 0, 0], Refusal::NotAwaited),
         (&[0x03, 0, 1], Refusal::ReadersForbid),
@@ -122,6 +127,9 @@ fn buffers_are_refused_by_their_length() {
 #[test]
 fn a_refusal_has_its_number_and_its_words() {
     assert_eq!(Refusal::OutputShort.number(), 1);
+    assert_eq!(Refusal::KindUnknown.number(), 10);
+    assert_eq!(Refusal::KeyMapEmpty.number(), 12);
+    assert_eq!(Refusal::CutOrTooLong.number(), 11);
     assert_eq!(Refusal::WritersForbid.number(), 9);
     for &refusal in Refusal::ALL {
         let error: Box<dyn Error> = Box::new(refusal);

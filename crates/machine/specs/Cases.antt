@@ -200,9 +200,9 @@ casesAToJ =
     ∷ refused (0x23 ∷ 0x01 ∷ 0x01 ∷ 0x02 ∷ []) 9 (loading 1 1 ∷ [])
     ∷ [])
     -- j: the empty record; a request's map; a key map of 0
-    ∷ fromEmpty (refused [] 5 [] ∷ [])
-    ∷ fromEmpty (refused (0x07 ∷ 0x00 ∷ 0x00 ∷ 0x01 ∷ 0x00 ∷ 0x00 ∷ 0x00 ∷ 0x07 ∷ []) 5 [] ∷ [])
-    ∷ fromEmpty (refused (0x0f ∷ 0x00 ∷ 0x00 ∷ 0x00 ∷ 0x00 ∷ []) 5 [] ∷ [])
+    ∷ fromEmpty (refused [] 10 [] ∷ [])
+    ∷ fromEmpty (refused (0x07 ∷ 0x00 ∷ 0x00 ∷ 0x01 ∷ 0x00 ∷ 0x00 ∷ 0x00 ∷ 0x07 ∷ []) 10 [] ∷ [])
+    ∷ fromEmpty (refused (0x0f ∷ 0x00 ∷ 0x00 ∷ 0x00 ∷ 0x00 ∷ []) 12 [] ∷ [])
     ∷ []
 
 abbrev pub CasesAToJ : Type 0

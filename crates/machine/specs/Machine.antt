@@ -106,7 +106,7 @@ scriptsBad = 3
 abbrev pub stateUnsound : ℕ
 stateUnsound = 4
 
--- 5, malformed, is decoding's own
+-- 10, 12 and 11, of a malformed record, are decoding's own
 
 abbrev pub nameUnknown : ℕ
 nameUnknown = 6
@@ -144,7 +144,7 @@ judgements p s event =
 abbrev pub eventRefusals : List ℕ → List ℕ → Event → List (Refusal ℕ)
 eventRefusals p s event = refuse nameUnknown (not (named p event)) ∷ judgements p s event
 
--- all of them in their order: 5 stands between the two, as decoding's own refusals
+-- all of them in their order: decoding's own, of a malformed record, stand between the two
 abbrev pub refusals : List ℕ → List ℕ → List ℕ → List ℕ → List ℕ → List (Refusal ℕ)
 refusals p scripts s bytes out =
     lentRefusals p scripts s out ++ (readRefusals Input bytes ++ eventRefusals p s (eventOf (decoded Input bytes .fields)))

@@ -46,7 +46,7 @@ otherExamples =
       scripts = scriptsWith [];
       room = outputRoom;
       start = loading 0 0 ∷ sevenStored;
-      calls = refused (0x03 ∷ 0x00 ∷ 0x01 ∷ []) 8 (loading 0 0 ∷ sevenStored) ∷ refused [] 5 (loading 0 0 ∷ sevenStored) ∷ [];
+      calls = refused (0x03 ∷ 0x00 ∷ 0x01 ∷ []) 8 (loading 0 0 ∷ sevenStored) ∷ refused [] 10 (loading 0 0 ∷ sevenStored) ∷ [];
     }
     ∷ []
 
@@ -266,11 +266,11 @@ strayBit = keysAre 15 0x100 ∷ []
 abbrev pub noRecord : ℕ → List ℕ → List Words → ℕ → Case
 noRecord room scripts start number = record { scripts = scripts; room = room; start = start; calls = refused [] number start ∷ [] }
 
--- 1 to 5; 2 to 5
+-- 1 to 4 and 10; 2 to 4 and 10
 abbrev pub withShortPolicy : List Case
 withShortPolicy = noRecord 1183 shortTable strayBit 1 ∷ noRecord 1184 shortTable strayBit 2 ∷ []
 
--- 3 to 5; 4 and 5; 6 and 7: there is no script 16, and the connection is free; 7 and 8: it is free, and the target is not allowed
+-- 3, 4 and 10; 4 and 10; 6 and 7: there is no script 16, and the connection is free; 7 and 8: it is free, and the target is not allowed
 abbrev pub withPolicyP : List Case
 withPolicyP =
     noRecord 1184 shortTable strayBit 3
@@ -279,7 +279,7 @@ withPolicyP =
     ∷ fromEmpty (refused (0x23 ∷ 0x00 ∷ 0x00 ∷ 0x02 ∷ []) 7 [] ∷ [])
     ∷ []
 
--- 4 and 5: a connection whose URL is 64, and one whose origin is. The words that follow the rows would make of 64 a URL that connection 5 fits.
+-- 4 and 10: a connection whose URL is 64, and one whose origin is. The words that follow the rows would make of 64 a URL that connection 5 fits.
 -- And a connection that does not fit its URL.
 abbrev pub withPolicyQ : List Case
 withPolicyQ =
@@ -288,13 +288,19 @@ withPolicyQ =
     ∷ noRecord 1184 (scriptsWith []) (loading 1 3 ∷ []) 4
     ∷ []
 
--- 2 and 5, where the last row has no address and a set that is not empty
+-- 2 and 10, where the last row has no address and a set that is not empty
 abbrev pub withLastRow : List Case
 withLastRow = noRecord 1184 (scriptsWith []) [] 2 ∷ []
 
--- 5 and 6: no URL has a row, not even 0, which the fields of a record that cannot be read name
+-- 10, 12 or 11 and 6: no URL has a row, not even 0, which the fields of a record that cannot be read name
 abbrev pub withNoUrl : List Case
-withNoUrl = noRecord 1184 (scriptsWith []) [] 5 ∷ []
+withNoUrl =
+    fromEmpty (refused [] 10 []
+    ∷ refused (0x0f ∷ 0x00 ∷ 0x00 ∷ 0x00 ∷ []) 12 []
+    ∷ refused (0x0f ∷ 0x00 ∷ 0x00 ∷ []) 11 []
+    ∷ refused (0x03 ∷ 0x00 ∷ 0x00 ∷ 0x00 ∷ []) 11 []
+    ∷ [])
+    ∷ []
 
 abbrev pub MoreCases : Type 0
 MoreCases = T (

@@ -7,6 +7,7 @@ use libc::STDOUT_FILENO;
 use monitor::Answer;
 use monitor::OUTPUT_ROOM;
 use policy::words::URL_ROWS;
+use records::KIND_UNKNOWN;
 use scripts::TABLE_BYTES;
 
 // Room for standard input; what does not fit would be missing from the output.
@@ -76,6 +77,7 @@ fn line(text: &[u8], words: &mut [u32]) {
         b'l' => set(text, words, LENGTHS, END),
         b'r' => feed(text, words, true),
         b't' => feed(text, words, false),
+        b'm' => sweep(text, words),
         _ => comment(text),
     }
 }
@@ -221,6 +223,58 @@ fn from_hex(bytes: &mut [u8], text: &[u8]) {
     for i in 0..bytes.len() {
         bytes[i] = (digit(text, 2 * i + 1) * 16 + digit(text, 2 * i + 2)) as u8;
     }
+}
+
+// Shows the directive, and feeds its record with each map byte, cut at each length.
+fn sweep(text: &[u8], words: &[u32]) {
+    comment(text);
+    let mut record = [0u8; RECORD_ROOM];
+    from_hex(&mut record, text);
+    let n = least(text.len() / 2, RECORD_ROOM);
+    every_map(words, &mut record[0..n]);
+}
+
+fn every_map(words: &[u32], record: &mut [u8]) {
+    for map in 0..256usize {
+        set_map(record, (map % 256) as u8);
+        every_length(words, record, map as u32);
+    }
+}
+
+fn set_map(record: &mut [u8], map: u8) {
+    if record.len() != 0 {
+        record[0] = map;
+    }
+}
+
+fn every_length(words: &[u32], record: &[u8], map: u32) {
+    let mut before = KIND_UNKNOWN;
+    for length in 0..=record.len() {
+        let number = number_of(words, &record[0..length]);
+        row(map, length, before, number);
+        before = number;
+    }
+}
+
+// Shows the number of a length where it is another than at the length before.
+fn row(map: u32, length: usize, before: u32, number: u32) {
+    if number != before {
+        print_number(map);
+        print(b" ");
+        io::print_decimal(STDOUT_FILENO, length as u64);
+        print_number(number);
+        print(b"\n");
+    }
+}
+
+// The number of a call, of which nothing is kept.
+fn number_of(words: &[u32], record: &[u8]) -> u32 {
+    let mut scripts = [0u8; 4 * STEP_ROOM];
+    set_scripts(&mut scripts, words);
+    let mut state = [0u32; STATE_ROOM];
+    set_state(&mut state, words);
+    let mut out = [0u8; OUTPUT_ROOM + SPARE];
+    lend(words, &scripts, &mut state, record, &mut out).number
 }
 
 // Each step's four bytes, the most significant first.

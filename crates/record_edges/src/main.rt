@@ -1,7 +1,8 @@
 // Runs the edges of the record format through decode and encode; what it writes is held to the file stdout.
-// First every map byte at every length from 0 to 45: for each at which a record is accepted, with how many of the 256 bytes
-// where a key map would be it is accepted and written back at that length. Then the records of standard input, whose
-// comments say how they are written.
+// First every map byte at every length from 0 to 45: with how many of the 256 bytes where a key map would be the record is accepted, and
+// written back at that length, and with how many it is refused with 10, with 12 and with 11. Shown are map byte, length and these four where they
+// are others than at the length before; a map byte that is not shown is 10 throughout. Then the records of standard input, whose comments
+// say how they are written.
 ghost use Prim.Native.Nat.{_<_, _≤_};
 use libc::STDIN_FILENO;
 use libc::STDOUT_FILENO;
@@ -29,48 +30,94 @@ fn print_number(n: u32) {
 
 // ---- every map at every length
 
-// 1 where the first `length` bytes are a record that is written back at that length.
-fn goes_back(direction: Direction, bytes: &[u8], length: usize) -> u32
-    ensures { λ r. ⌜ r ≤ 1 ⌝ }
-{
+// How many of 256 records are accepted and written back, and how many are refused with each number.
+struct Counts {
+    accepted: u32,
+    kind: u32,
+    keys: u32,
+    length: u32,
+}
+
+fn same(a: Counts, b: Counts) -> bool {
+    (a.accepted == b.accepted) & (a.kind == b.kind) & (a.keys == b.keys) & (a.length == b.length)
+}
+
+// The number with which the first `length` bytes are read; one that no record has where they are accepted and not written back at that length.
+fn number_of(direction: Direction, bytes: &[u8], length: usize) -> u32 {
     if bytes.len() < length {
-        return 0;
+        return 255;
     }
     let read = records::decode(direction, &bytes[0..length]);
-    if read.number != 0 {
-        return 0;
+    if read.number != records::ACCEPTED {
+        return read.number;
     }
     let fields = read.fields;
     let mut out = [0u8; 46];
     let back = records::encode(direction, fields, &mut out);
-    if back.length == length { 1 } else { 0 }
+    if back.length == length {
+        records::ACCEPTED
+    } else {
+        255
+    }
 }
 
-fn key_maps(direction: Direction, map: u8, length: usize) -> u32 {
+fn is_number(direction: Direction, bytes: &[u8], length: usize, number: u32) -> u32
+    ensures { λ r. ⌜ r ≤ 1 ⌝ }
+{
+    if number_of(direction, bytes, length) == number {
+        1
+    } else {
+        0
+    }
+}
+
+// With how many of the 256 bytes where a key map would be the number is this one.
+fn key_maps(direction: Direction, map: u8, length: usize, number: u32) -> u32 {
     let mut bytes = [0x11; 46];
     bytes[0] = map;
     let mut n = 0u32;
     for keys in 0..256usize {
         bytes[3] = (keys % 256) as u8;
-        n += goes_back(direction, &bytes, length);
+        n += is_number(direction, &bytes, length, number);
     }
     n
 }
 
-fn row(map: u32, length: usize, n: u32)
+fn counts_of(direction: Direction, map: u8, length: usize) -> Counts {
+    Counts {
+        accepted: key_maps(direction, map, length, records::ACCEPTED),
+        kind: key_maps(direction, map, length, records::KIND_UNKNOWN),
+        keys: key_maps(direction, map, length, records::KEY_MAP_EMPTY),
+        length: key_maps(direction, map, length, records::CUT_OR_TOO_LONG),
+    }
+}
+
+// Shows the counts of a length where they are not those of the length before.
+fn row(map: u8, length: usize, before: Counts, counts: Counts)
     requires { ⌜ length < 46 ⌝ }
 {
-    if n != 0 {
-        print_number(map);
+    if !same(before, counts) {
+        print_number(wide(map));
         print_number(length as u32);
-        print_number(n);
+        print_number(counts.accepted);
+        print_number(counts.kind);
+        print_number(counts.keys);
+        print_number(counts.length);
         print(b"\n");
     }
 }
 
 fn with_map(direction: Direction, map: u8) {
+    let mut before = Counts {
+        accepted: 0,
+        kind: 256,
+        keys: 0,
+        length: 0,
+    };
     for length in 0..46usize {
-        row(map as u32, length, key_maps(direction, map, length));
+        let counts = counts_of(direction, map, length);
+        row(map, length, before, counts);
+        before = counts;
     }
 }
 

@@ -1,12 +1,15 @@
 -- What decoding answers at each of its tests, and what acceptance says of them.
-use Rattle.prelude.proofs.Kit.{ℕ, true, Bool, false, not, _||_, true≢false, List, _≡_, refl, ne-eqb, not-false, eq-eqb, eqb, length, take}
+use Rattle.prelude.proofs.Kit.{ℕ, _<_, _+_, arith, true, Bool, false, not, _&&_, _||_, true≢false, and-false, List, _≡_, refl, ne-eqb, not-false, eq-eqb}
+use Rattle.prelude.proofs.Kit.{T, eqb, eqb→eq, ltb, lt→ltb, length, take, and-l}
 use mathlib.Core.Bool.{or-true}
 use borrow.Author.Tests.{eqb-true}
 use Rattle.prelude.specs.Refusals.{accepted}
 use Rattle.prelude.proofs.Refusals.{NoneOf, nth, first-is, none-applies, none-applied}
 use Rattle.records.specs.declared.Direction.{Direction}
-use Rattle.records.specs.Layout.{maps, widths, start, size}
-use Rattle.records.specs.Codec.{malformed, refused, isOneOf, keysMissing, mapOf, keysOf, mapUnknown, keysZero, lengthOther, readRefusals, readRefusal, fieldsOf, decoded}
+use Rattle.records.specs.Bytes.{bit}
+use Rattle.records.specs.Layout.{cookiesBit, maps, widths, start, keyMapAt, size}
+use Rattle.records.specs.Codec.{refused, isOneOf, keysMissing, mapOf, keysOf, mapUnknown, keysZero, lengthOther, readRefusals, readRefusal, fieldsOf, decoded}
+use Rattle.records.proofs.Writing.{front-end, size-split}
 
 -- the place after the last field is the length
 pub end-is-size : (m keys : ℕ) → start 14 m keys ≡ size m keys
@@ -16,7 +19,7 @@ end-is-size m keys = refl
 module _ (d : Direction) (bytes : List ℕ) where
   -- refusal n, where it is the first that applies
   pub refused-by : (n : ℕ) → NoneOf (take n (readRefusals d bytes)) → nth accepted n (readRefusals d bytes) .applies ≡ true
-      → nth accepted n (readRefusals d bytes) .answer ≡ malformed → refused ≡ decoded d bytes
+      → eqb (nth accepted n (readRefusals d bytes) .answer) accepted ≡ false → refused (nth accepted n (readRefusals d bytes) .answer) ≡ decoded d bytes
   unfolding decoded readRefusal
   refused-by n none e number = rw (first-is accepted n (readRefusals d bytes) none e, number)
 
@@ -32,9 +35,13 @@ module _ (d : Direction) (bytes : List ℕ) where
   unfolding mapUnknown
   map-known ne e = rw (ne-eqb (length bytes) 0 ne, e)
 
-  pub keys-zero : (b : Bool) → keysMissing (mapOf bytes) (keysOf bytes) ≡ b → keysZero bytes ≡ b
+  pub keys-zero : (b : Bool) → ltb (keyMapAt (mapOf bytes)) (length bytes) && keysMissing (mapOf bytes) (keysOf bytes) ≡ b → keysZero bytes ≡ b
   unfolding keysZero
   keys-zero b e = e
+
+  pub keys-set : keysMissing (mapOf bytes) (keysOf bytes) ≡ false → keysZero bytes ≡ false
+  unfolding keysZero
+  keys-set e = rw (e, and-false)
 
   pub length-other : (length bytes ≡ size (mapOf bytes) (keysOf bytes) → ⊥) → lengthOther bytes ≡ true
   unfolding lengthOther
@@ -48,11 +55,11 @@ module _ (d : Direction) (bytes : List ℕ) where
   unfolding decoded
   decoded-accepted e = rw e
 
-  pub accepts : (length bytes ≡ 0 → ⊥) → isOneOf (mapOf bytes) (maps d) ≡ true → keysMissing (mapOf bytes) (keysOf bytes) ≡ false
+  pub accepts : (length bytes ≡ 0 → ⊥) → isOneOf (mapOf bytes) (maps d) ≡ true → keysZero bytes ≡ false
       → length bytes ≡ size (mapOf bytes) (keysOf bytes) → readRefusal d bytes ≡ accepted
   unfolding readRefusal
   accepts ne known keyed e =
-      none-applies accepted (readRefusals d bytes) (map-known ne known, (keys-zero false keyed, (length-right e, tt)))
+      none-applies accepted (readRefusals d bytes) (map-known ne known, (keyed, (length-right e, tt)))
 
 -- ---- what acceptance says: every test passed
 
@@ -60,6 +67,23 @@ or-false : (x y : Bool) → x || not y ≡ false → (x ≡ false) × (y ≡ tru
 or-false true y e = absurd (true≢false e)
 or-false false true e = (refl, refl)
 or-false false false e = absurd (true≢false e)
+
+-- a test that fails only where another one, which it needs, fails
+and-false-needed : (x y : Bool) → (T y → T x) → x && y ≡ false → y ≡ false
+and-false-needed x false needs e = refl
+and-false-needed true true needs e = absurd (true≢false e)
+and-false-needed false true needs e = absurd (needs tt)
+
+key-map-start : (m : ℕ) → keyMapAt m ≡ 1 + bit m 0 + bit m 1
+unfolding start widths
+key-map-start m = omega arith
+
+-- a record with cookies that is as long as its maps call for has its key map
+key-map-there : (m keys n : ℕ) → n ≡ size m keys → T (keysMissing m keys) → T (ltb (keyMapAt m) n)
+unfolding keysMissing
+key-map-there m keys n e t =
+    let carried = eqb→eq (bit m cookiesBit) 1 (and-l (eqb (bit m cookiesBit) 1) (eqb keys 0) t) in
+    lt→ltb (keyMapAt m) n (omega (arith, e, carried, key-map-start m, front-end m keys, size-split m keys))
 
 module _ (d : Direction) (bytes : List ℕ) (e : readRefusal d bytes ≡ accepted) where
   pub read-tests : NoneOf (readRefusals d bytes)
@@ -73,3 +97,9 @@ module _ (d : Direction) (bytes : List ℕ) (e : readRefusal d bytes ≡ accepte
   pub right-length : length bytes ≡ size (mapOf bytes) (keysOf bytes)
   unfolding lengthOther
   right-length = eqb-true (length bytes) (size (mapOf bytes) (keysOf bytes)) (not-false (eqb (length bytes) (size (mapOf bytes) (keysOf bytes))) (read-tests .1 .1 .0))
+
+  pub keyed : keysMissing (mapOf bytes) (keysOf bytes) ≡ false
+  unfolding keysZero
+  keyed =
+      let m = mapOf bytes in
+      and-false-needed (ltb (keyMapAt m) (length bytes)) (keysMissing m (keysOf bytes)) (key-map-there m (keysOf bytes) (length bytes) right-length) (read-tests .1 .0)

@@ -12,7 +12,7 @@ use Rattle.records.specs.declared.Direction.the-variants.{Input, Request
 use Rattle.records.specs.declared.Record.{Record}
 use Rattle.records.specs.Bytes.{bit}
 use Rattle.records.specs.Layout.{keyNumbers, maps, longest, widths, sum, fitWidths, values, size}
-use Rattle.records.specs.Codec.{noRoom, malformed, isOneOf, keysMissing, carriable, bytesOf, writeRefusals, writeRefusal, encoded}
+use Rattle.records.specs.Codec.{noRoom, notCarriable, isOneOf, keysMissing, carriable, bytesOf, writeRefusals, writeRefusal, encoded}
 use Rattle.records.specs.Places.{frontWidths, cookieWidths, backWidths}
 use Rattle.records.proofs.Joining.{length-join}
 use Rattle.records.proofs.Writing.{widths-split, values-split, size-split, front-sum, front-count, cookie-count}
@@ -114,7 +114,7 @@ module _ (d : Direction) (r : Record) (out : List ℕ) where
   unfolding encoded writeRefusal
   no-room l = rw (first-is accepted 0 (writeRefusals d r out) tt (lt-ltb (length out) (longest d) l))
 
-  pub not-carriable : longest d ≤ length out → carriable d r ≡ false → record { number = malformed; length = 0; buffer = out } ≡ encoded d r out
+  pub not-carriable : longest d ≤ length out → carriable d r ≡ false → record { number = notCarriable; length = 0; buffer = out } ≡ encoded d r out
   unfolding encoded writeRefusal
   not-carriable l e = rw (first-is accepted 1 (writeRefusals d r out) (le-ltb (length out) (longest d) l, tt) (rw e))
 

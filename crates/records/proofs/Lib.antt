@@ -7,6 +7,7 @@ pub mod Cookies
 pub mod Values
 pub mod Writing
 pub mod Decoding
+pub mod Cases
 pub mod Encoding
 pub mod RoundTrips
 pub mod Carriable

@@ -11,10 +11,10 @@ use Rattle.prelude.proofs.Refusals.{NoneOf, none-applied}
 use Rattle.records.specs.declared.Direction.{Direction}
 use Rattle.records.specs.declared.Record.{Record}
 use Rattle.records.specs.Layout.{maps, longest, widths, sum, join, split, values, fromValues, size}
-use Rattle.records.specs.Codec.{isOneOf, keysMissing, mapOf, keysOf, mapUnknown, keysZero, readRefusal, fieldsOf, decoded, carriable, bytesOf, Written, writeRefusals, writeRefusal, encoded, firstRecord, readAtMost, readRun, writeRun, followedBy}
+use Rattle.records.specs.Codec.{isOneOf, keysMissing, mapOf, keysOf, mapUnknown, readRefusal, fieldsOf, decoded, carriable, bytesOf, Written, writeRefusals, writeRefusal, encoded, firstRecord, readAtMost, readRun, writeRun, followedBy}
 use Rattle.records.specs.RoundTrips.{EightCookies, WrittenIsRead, ReadIsWritten, RunIsRead, AllEightCookies, LongestIs}
 use Rattle.records.proofs.Values.{keys-first, same-keys}
-use Rattle.records.proofs.Decoding.{decoded-accepted, accepts, read-tests, known, right-length}
+use Rattle.records.proofs.Decoding.{keys-set, decoded-accepted, accepts, known, right-length, keyed as read-keyed}
 use Rattle.records.proofs.Encoding.{counted, known as mapped, keyed, fitting, bytes-length, encoded-accepted, no-write-refusal}
 use Rattle.records.proofs.Joining.{length-split, split-join, join-split, fits-split, drop-bytes, values-from, from-values}
 
@@ -79,7 +79,7 @@ module _ (d : Direction) (r : Record) (eight : EightCookies r) (ok : T (carriabl
   accepted-back =
       accepts d (bytesOf r) nonempty
       (rw map-alone (is-true (isOneOf (r .map) (maps d)) (mapped d r ok)))
-      (rw (map-alone, keys-alone) (is-false (keysMissing (r .map) (r .keys)) (keyed d r ok)))
+      (keys-set d (bytesOf r) (rw (map-alone, keys-alone) (is-false (keysMissing (r .map) (r .keys)) (keyed d r ok))))
       (rw (map-alone, keys-alone) (bytes-length r))
 
   tail-parted : fromValues (r .map) (split (widths (r .map) (r .keys)) (drop 1 (bytesOf r))) ≡ r
@@ -130,9 +130,9 @@ module _ (d : Direction) (bytes : List ℕ) (h : T (areBytes bytes)) (e : readRe
       (sym (drop-cons bytes 0 0 (positive (length bytes) (known d bytes e .0))))
 
   pub carried-back : T (carriable d (fieldsOf bytes))
-  unfolding carriable keysZero apart
+  unfolding carriable apart
   carried-back =
-      rw (same-values, same-map, same-keys bytes, known d bytes e .1, read-tests d bytes e .1 .0)
+      rw (same-values, same-map, same-keys bytes, known d bytes e .1, read-keyed d bytes e)
       (fits-split (widths (mapOf bytes) (keysOf bytes)) (drop 1 bytes) (drop-bytes 1 bytes h) (omega (arith, as-many)))
 
   pub encodes : (out : List ℕ) → longest d ≤ length out

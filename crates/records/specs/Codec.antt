@@ -10,22 +10,32 @@ use Rattle.records.specs.declared.Record.{Record}
 use Rattle.records.specs.declared.Decoded.{Decoded}
 use Rattle.records.specs.declared.Encoded.{Encoded}
 use Rattle.records.specs.Bytes.{bit}
-use Rattle.records.specs.Layout.{cookiesBit, maps, widths, size, longest, join, split, fitWidths, values, fromValues}
+use Rattle.records.specs.Layout.{cookiesBit, maps, widths, keyMapAt, size, longest, join, split, fitWidths, values, fromValues}
 
--- the numbers of their refusals
+-- the numbers of encoding's refusals
 abbrev pub noRoom : ℕ
 noRoom = 1
 
-abbrev pub malformed : ℕ
-malformed = 5
+abbrev pub notCarriable : ℕ
+notCarriable = 5
+
+-- and of decoding's, in their order; what has one of them is malformed
+abbrev pub kindUnknown : ℕ
+kindUnknown = 10
+
+abbrev pub keyMapEmpty : ℕ
+keyMapEmpty = 12
+
+abbrev pub cutOrTooLong : ℕ
+cutOrTooLong = 11
 
 -- the fields of a refused read: each is 0, the map too
 abbrev pub blank : Record
 blank = record { map = 0; url = 0; connection = 0; keys = 0; cookies = replicate 8 0; script = 0; value = 0; target = 0 }
 
 -- what a refused read answers
-abbrev pub refused : Decoded
-refused = record { number = malformed; fields = blank }
+abbrev pub refused : ℕ → Decoded
+refused n = record { number = n; fields = blank }
 
 unfoldable pub isOneOf : ℕ → List ℕ → Bool
 isOneOf n [] = false
@@ -45,21 +55,23 @@ mapOf bytes = getD bytes 0 0
 unfoldable pub keysOf : List ℕ → ℕ
 keysOf bytes = fromValues (mapOf bytes) (split (widths (mapOf bytes) 0) (drop 1 bytes)) .keys
 
--- what is refused: the empty record, and a map that the direction does not have; a key map of zero; another length than the maps call for
+-- 10: the record is empty, or its map is none of the direction's
 unfoldable pub mapUnknown : Direction → List ℕ → Bool
 mapUnknown d bytes = eqb (length bytes) 0 || not (isOneOf (mapOf bytes) (maps d))
 
+-- 12: cookies are carried, and the key map byte is there and zero, whatever the length
 unfoldable pub keysZero : List ℕ → Bool
-keysZero bytes = keysMissing (mapOf bytes) (keysOf bytes)
+keysZero bytes = ltb (keyMapAt (mapOf bytes)) (length bytes) && keysMissing (mapOf bytes) (keysOf bytes)
 
+-- 11: the length is not what the maps call for; so it is where the record ends before its key map byte
 unfoldable pub lengthOther : List ℕ → Bool
 lengthOther bytes = not (eqb (length bytes) (size (mapOf bytes) (keysOf bytes)))
 
 abbrev pub readRefusals : Direction → List ℕ → List (Refusal ℕ)
 readRefusals d bytes =
-    refuse malformed (mapUnknown d bytes)
-    ∷ refuse malformed (keysZero bytes)
-    ∷ refuse malformed (lengthOther bytes)
+    refuse kindUnknown (mapUnknown d bytes)
+    ∷ refuse keyMapEmpty (keysZero bytes)
+    ∷ refuse cutOrTooLong (lengthOther bytes)
     ∷ []
 
 unfoldable pub readRefusal : Direction → List ℕ → ℕ
@@ -98,7 +110,7 @@ written answer out = record { number = answer .number; length = answer .length; 
 abbrev pub writeRefusals : Direction → Record → List ℕ → List (Refusal ℕ)
 writeRefusals d r out =
     refuse noRoom (ltb (length out) (longest d))
-    ∷ refuse malformed (not (carriable d r))
+    ∷ refuse notCarriable (not (carriable d r))
     ∷ []
 
 unfoldable pub writeRefusal : Direction → Record → List ℕ → ℕ

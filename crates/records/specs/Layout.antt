@@ -101,6 +101,10 @@ sum (n ∷ ns) = n + sum ns
 unfoldable pub start : ℕ → ℕ → ℕ → ℕ
 start i m keys = 1 + sum (take i (widths m keys))
 
+-- the place of the key map byte; no key moves it
+abbrev pub keyMapAt : ℕ → ℕ
+keyMapAt m = start 2 m 0
+
 -- how many bytes a record with this map and key map has, the map byte included
 unfoldable pub size : ℕ → ℕ → ℕ
 size m keys = 1 + sum (widths m keys)

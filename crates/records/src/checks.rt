@@ -1,8 +1,9 @@
 // What is asked of a record's maps and of its fields.
 ghost use mathlib.Core.Path.{_≡_};
+ghost use mathlib.Core.Bool.{_&&_};
 ghost use Prim.Native.Nat.{ℕ, _*_, _^_, _<_};
 ghost use lib.Dec.{eqb, ltb};
-ghost use Rattle.records.specs.Layout.{maps, longest, widths, values, fitWidths};
+ghost use Rattle.records.specs.Layout.{maps, longest, widths, keyMapAt, values, fitWidths};
 ghost use Rattle.records.specs.Codec.{isOneOf, keysMissing, carriable};
 ghost use Rattle.records.specs.Places.{cookieWidths};
 use super::Direction;
@@ -10,6 +11,7 @@ use super::Record;
 use super::bytes::bit;
 use super::places::CONNECTION;
 use super::places::COOKIES;
+use super::places::Places;
 use super::places::SCRIPT;
 use super::places::TARGET;
 use super::places::URL;
@@ -60,6 +62,13 @@ pub fn keys_missing(map: u8, keys: u8) -> bool
         return false;
     }
     keys == 0
+}
+
+// The same, of a record with so many bytes whose key map byte is there.
+pub fn keys_zero(map: u8, keys: u8, length: usize) -> bool
+    ensures { λ r. ⌜ r ≡ ltb (keyMapAt map) length && keysMissing map keys ⌝ }
+{
+    (Places::of(map, 0).keys < length) & keys_missing(map, keys)
 }
 
 // What is left over of a value that is not carried: the value itself; 0 where it is carried. So it is 0 just where the

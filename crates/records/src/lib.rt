@@ -13,19 +13,26 @@ pub use checks::LONGEST_INPUT;
 pub use checks::LONGEST_REQUEST;
 use checks::carriable;
 use checks::is_map;
-use checks::keys_missing;
+use checks::keys_zero;
 use checks::longest;
 use fields::key_map;
 use fields::read;
 use fields::write;
 use places::Places;
 
-// The numbers of an answer.
+// The number of what is accepted, and of what encoding refuses.
 pub const ACCEPTED: u32 = 0;
 
 pub const NO_ROOM: u32 = 1;
 
-pub const MALFORMED: u32 = 5;
+pub const NOT_CARRIABLE: u32 = 5;
+
+// The numbers of what decoding refuses, in the order in which they are asked.
+pub const KIND_UNKNOWN: u32 = 10;
+
+pub const KEY_MAP_EMPTY: u32 = 12;
+
+pub const CUT_OR_TOO_LONG: u32 = 11;
 
 // Whether a record is an input of the monitor or a request that it sends.
 pub enum Direction {
@@ -46,7 +53,7 @@ pub struct Record {
     pub target: u8,
 }
 
-// What decoding answers: 0 and the fields, or 5 and every field 0.
+// What decoding answers: 0 and the fields, or a refusal and every field 0.
 pub struct Decoded {
     pub number: u32,
     pub fields: Record,
@@ -58,11 +65,11 @@ pub struct Encoded {
     pub length: usize,
 }
 
-fn refused() -> Decoded
-    ensures { λ r. ⌜ r ≡ refused ⌝ }
+fn refused(number: u32) -> Decoded
+    ensures { λ r. ⌜ r ≡ refused number ⌝ }
 {
     Decoded {
-        number: MALFORMED,
+        number,
         fields: Record {
             map: 0,
             url: 0,
@@ -76,23 +83,24 @@ fn refused() -> Decoded
     }
 }
 
-// Reads a record: 0 and its fields, or 5 where it is malformed.
+// Reads a record: 0 and its fields; 10 where it is empty or the direction does not have its map; 12 where its key map byte is there and zero,
+// though cookies are carried; 11 where its length is not what its maps call for.
 pub fn decode(direction: Direction, bytes: &[u8]) -> Decoded
     ensures { λ r. ⌜ r ≡ decoded direction (now (bytes .entry)) ⌝ }
 {
     if bytes.len() == 0 {
-        return refused();
+        return refused(KIND_UNKNOWN); // there is no map
     }
     let map = bytes[0];
     if !is_map(direction, map) {
-        return refused();
+        return refused(KIND_UNKNOWN);
     }
     let keys = key_map(map, bytes);
-    if keys_missing(map, keys) {
-        return refused();
+    if keys_zero(map, keys, bytes.len()) {
+        return refused(KEY_MAP_EMPTY);
     }
     if bytes.len() != Places::of(map, keys).end {
-        return refused();
+        return refused(CUT_OR_TOO_LONG);
     }
     Decoded {
         number: ACCEPTED,
@@ -113,7 +121,7 @@ pub fn encode(direction: Direction, fields: Record, out: &mut [u8]) -> Encoded
     }
     if !carriable(direction, fields) {
         return Encoded {
-            number: MALFORMED,
+            number: NOT_CARRIABLE,
             length: 0,
         };
     }

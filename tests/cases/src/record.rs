@@ -14,6 +14,15 @@ pub const COOKIES: u8 = 0x04;
 
 const INPUT_MAPS: [u8; 7] = [0x03, 0x0b, 0x0f, 0x13, 0x17, 0x23, 0x27];
 
+/// The input maps with cookies.
+const COOKIE_MAPS: [u8; 3] = [0x0f, 0x17, 0x27];
+
+/// The map that a request can have and an input cannot.
+const REQUEST_MAP: u8 = LOAD | COOKIES;
+
+/// Where the key map stands in a record with cookies.
+const KEY_MAP_AT: usize = 3;
+
 #[derive(Clone, Copy, Default)]
 struct Fields {
     map: u8,
@@ -77,14 +86,14 @@ enum Twist {
 }
 
 const TWISTS: [(usize, Twist); 8] = [
-    (36, Twist::Nothing),
+    (40, Twist::Nothing),
     (5, Twist::AnyLoad),
     (5, Twist::AnyTarget),
     (5, Twist::BadName),
     (3, Twist::OtherUrl),
     (3, Twist::OtherConnection),
     (3, Twist::OtherKind),
-    (6, Twist::Bytes),
+    (13, Twist::Bytes),
 ];
 
 /// Makes a record for a sound state: more than half of them are accepted where the policy lets anything be.
@@ -143,11 +152,16 @@ fn awaited(setting: &Setting, state: &[u32], connection: u8, random: &Random) ->
     }
     if random.one_in(2) {
         fields.map |= COOKIES;
-        fields.keys = random.pick(&[0xff, random.byte().max(1), 1 << random.below(KEYS)]);
+        fields.keys = some_keys(random);
         random.fill_words(&mut fields.values);
         fields.values[random.below(KEYS)] = 0;
     }
     fields
+}
+
+/// All keys, any of them, or one.
+fn some_keys(random: &Random) -> u8 {
+    random.pick(&[0xff, random.byte().max(1), 1 << random.below(KEYS)])
 }
 
 fn response_to(pending: Pending) -> u8 {
@@ -193,15 +207,16 @@ fn misname(fields: &mut Fields, setting: &Setting, random: &Random) {
 }
 
 fn twist_bytes(record: &mut Vec<u8>, random: &Random) {
-    match random.below(9) {
+    match random.below(15) {
         0 => record.clear(),
         1 => record[0] = random.byte(),
         2 => record[0] = random.pick(&INPUT_MAPS),
-        3 => record.truncate(random.below(record.len())),
-        4 => lengthen(record, 1, random),
-        5 => lengthen(record, random.within(1..=4), random),
-        6 => no_keys(record, random),
-        7 => {
+        3 | 4 => record.truncate(random.below(record.len())),
+        5 | 6 => cut_cookies(record, random),
+        7 => lengthen(record, random.pick(&[1, random.within(1..=4)]), random),
+        8..=10 => no_keys(record, random),
+        11 | 12 => request(record, random),
+        13 => {
             record.clear();
             let length = random.pick(&[random.below(48), random.below(256), random.below(8 * 256)]);
             lengthen(record, length, random);
@@ -223,13 +238,39 @@ fn lengthen(record: &mut Vec<u8>, by: usize, random: &Random) {
     random.fill_bytes(&mut record[old..]);
 }
 
-/// A map with cookies, an empty key map, and what else the map asks for.
-fn no_keys(record: &mut Vec<u8>, random: &Random) {
-    let fields = Fields {
-        map: random.pick(&[DOCUMENT_RESPONSE, SCRIPT_RESPONSE, REDIRECT]) | COOKIES,
+/// A record of this map and these keys, on the same URL and connection.
+fn rewrite(record: &mut Vec<u8>, map: u8, keys: u8, random: &Random) {
+    let mut fields = Fields {
+        map,
         url: record[1],
         connection: record[2],
+        keys,
+        value: random.word(),
         ..Fields::default()
     };
+    random.fill_words(&mut fields.values);
     fields.write(record);
+}
+
+/// A map with cookies, an empty key map, and what else the map asks for, or less or more than that.
+fn no_keys(record: &mut Vec<u8>, random: &Random) {
+    rewrite(record, random.pick(&COOKIE_MAPS), 0, random);
+    match random.below(3) {
+        0 => {}
+        1 => record.truncate(random.within(KEY_MAP_AT + 1..=record.len() - 1)),
+        _ => lengthen(record, random.pick(&[1, 4, random.within(1..=256)]), random),
+    }
+}
+
+/// A record with cookies, cut before its key map or anywhere.
+fn cut_cookies(record: &mut Vec<u8>, random: &Random) {
+    rewrite(record, random.pick(&COOKIE_MAPS), some_keys(random), random);
+    let longest = random.pick(&[KEY_MAP_AT, record.len() - 1]);
+    record.truncate(random.within(1..=longest));
+}
+
+/// A request with cookies, whose map no input has; also with an empty key map.
+fn request(record: &mut Vec<u8>, random: &Random) {
+    let keys = random.pick(&[0, some_keys(random)]);
+    rewrite(record, REQUEST_MAP, keys, random);
 }

@@ -1,7 +1,7 @@
 //! What the generator calls well formed and sound is so by the reference, and everything comes from the seed.
 
 use cases::{Call, Random, Setting};
-use reference::numbers::MALFORMED;
+use reference::numbers::KIND_UNKNOWN;
 use reference::Seen;
 
 use crate::case::play;
@@ -30,7 +30,7 @@ fn policies_are_well_formed_and_states_sound() {
             cases::state::make_sound(&setting, &mut call.state, &random);
             assert_eq!(
                 number_of(&call, &random),
-                MALFORMED,
+                KIND_UNKNOWN,
                 "the empty record, case {case}"
             );
         }

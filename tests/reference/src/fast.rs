@@ -57,7 +57,7 @@ fn judge(
     if !cookies_sound(state) || !pending_sound(policy, some_empty, state) {
         return Err(STATE_UNSOUND);
     }
-    let record = read_record(record).ok_or(MALFORMED)?;
+    let record = read_record(record).ok_or_else(|| why_malformed(record))?;
     check_record(policy, state, &record)?;
     Ok(carry_out(policy, scripts, state, &record, out))
 }
@@ -288,7 +288,7 @@ struct Record<'a> {
     values: &'a [u8],
 }
 
-/// Number 5.
+/// Numbers 10, 12 and 11: none where one of them applies.
 #[inline(always)]
 fn read_record(bytes: &[u8]) -> Option<Record<'_>> {
     let (&[map, url, connection], mut rest) = bytes.split_first_chunk()?;
@@ -318,6 +318,33 @@ fn read_record(bytes: &[u8]) -> Option<Record<'_>> {
         keys: keys.into(),
         values,
     })
+}
+
+/// Which of these numbers is the first, for a record that could not be read.
+/// A second look at its bytes, so that a good record is read without asking.
+#[cold]
+#[inline(never)]
+fn why_malformed(bytes: &[u8]) -> u32 {
+    match *bytes {
+        [] => KIND_UNKNOWN,
+        [map, ..] if !is_input_map(map) => KIND_UNKNOWN,
+        [map, _, _, 0, ..] if map & BIT_COOKIES != 0 => KEY_MAP_EMPTY,
+        _ => CUT_OR_TOO_LONG,
+    }
+}
+
+#[inline(always)]
+fn is_input_map(map: u8) -> bool {
+    matches!(
+        map,
+        MAP_LOAD
+            | MAP_DOCUMENT
+            | MAP_DOCUMENT_COOKIES
+            | MAP_SCRIPT
+            | MAP_SCRIPT_COOKIES
+            | MAP_REDIRECT
+            | MAP_REDIRECT_COOKIES
+    )
 }
 
 /// Numbers 6 to 9.

@@ -37,8 +37,8 @@ pub const STATE_CONNECTIONS: usize = STATE_PRESENT + HOSTS;
 /// Words of a state.
 pub const STATE_WORDS: usize = STATE_CONNECTIONS + CONNECTIONS;
 
-/// Bytes of map, URL and connection.
-const FRONT_BYTES: usize = 3;
+/// Bytes of map, URL and connection; a key map stands behind them.
+pub const FRONT_BYTES: usize = 3;
 /// Bytes of a key map and of every cookie's value.
 const COOKIES_BYTES: usize = 1 + 4 * KEYS;
 /// Bytes of the longest input, a script response.

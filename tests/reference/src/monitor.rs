@@ -75,7 +75,10 @@ fn judge(
     let policy = Policy::read(policy).map_err(refuse(POLICY_BAD))?;
     check_scripts(scripts).map_err(refuse(SCRIPTS_BAD))?;
     let state = State::read(state, &policy).map_err(refuse(STATE_UNSOUND))?;
-    let record = record::read(record).map_err(refuse(MALFORMED))?;
+    record::check_map(record).map_err(refuse(KIND_UNKNOWN))?;
+    record::check_key_map(record).map_err(refuse(KEY_MAP_EMPTY))?;
+    record::check_length(record).map_err(refuse(CUT_OR_TOO_LONG))?;
+    let record = record::read(record);
     record::check_numbers(&record, &policy).map_err(refuse(NAME_UNKNOWN))?;
     check_match(&record, &state).map_err(refuse(NOT_AWAITED))?;
     check_readers(&record, &policy).map_err(refuse(READERS_FORBID))?;

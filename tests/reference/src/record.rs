@@ -1,5 +1,7 @@
 //! Input records.
 
+use std::cmp::Ordering;
+
 use crate::layout::*;
 use crate::policy::Policy;
 use crate::seen::Event;
@@ -34,81 +36,137 @@ const INPUT_MAPS: [u8; 7] = [
     MAP_REDIRECT_COOKIES,
 ];
 
+/// The one map that a request can have and an input cannot.
+const MAP_REQUEST_ONLY: u8 = MAP_DOCUMENT_REQUEST | BIT_COOKIES;
+
+/// The record is empty or its map is no input map, whatever else might refuse
+/// it.
+pub fn check_map(bytes: &[u8]) -> Result<(), Event> {
+    let &map = bytes.first().ok_or(Event::RecordEmpty)?;
+    if INPUT_MAPS.contains(&map) {
+        return Ok(());
+    }
+    Err(match map {
+        _ if key_map(bytes) == Some(0) => Event::RecordMapNoKeys,
+        MAP_REQUEST_ONLY => Event::RecordMapRequest,
+        _ => Event::RecordMap,
+    })
+}
+
+/// The cookie bit stands and the key map byte is there and zero. However long
+/// the record is: its length is asked for later.
+pub fn check_key_map(bytes: &[u8]) -> Result<(), Event> {
+    if key_map(bytes) != Some(0) {
+        return Ok(());
+    }
+    Err(match bytes.len().cmp(&length(bytes[0], 0)) {
+        Ordering::Less => Event::RecordNoKeysCut,
+        Ordering::Equal => Event::RecordNoKeys,
+        Ordering::Greater => Event::RecordNoKeysTrailing,
+    })
+}
+
+/// The length is not what the maps call for. Without its key map byte, a
+/// record with cookies is cut, whatever that byte would call for.
+pub fn check_length(bytes: &[u8]) -> Result<(), Event> {
+    let cookies = has_cookies(bytes);
+    let key_map = key_map(bytes);
+    if cookies && key_map.is_none() {
+        return Err(Event::RecordCutBeforeKeys);
+    }
+    match bytes.len().cmp(&length(bytes[0], key_map.unwrap_or(0))) {
+        Ordering::Less if cookies => Err(Event::RecordCutAfterKeys),
+        Ordering::Less => Err(Event::RecordCutPlain),
+        Ordering::Greater => Err(Event::RecordTrailing),
+        Ordering::Equal => Ok(()),
+    }
+}
+
+/// Whether the cookie bit stands in the map of a record that is not empty.
+fn has_cookies(bytes: &[u8]) -> bool {
+    bytes[0] & BIT_COOKIES != 0
+}
+
+/// The key map byte, where the cookie bit stands and the byte is there.
+fn key_map(bytes: &[u8]) -> Option<u8> {
+    match has_cookies(bytes) {
+        true => bytes.get(FRONT_BYTES).copied(),
+        false => None,
+    }
+}
+
+/// The length that the maps call for: one byte of map, then only the fields
+/// whose bit stands. Cookies are a key map byte, then four bytes for each
+/// standing bit.
+fn length(map: u8, key_map: u8) -> usize {
+    let cookies = 1 + 4 * key_map.count_ones() as usize;
+    let fields = [1, 1, cookies, 1, 4, 1];
+    let standing = (0..fields.len()).filter(|bit| map >> bit & 1 == 1);
+    1 + standing.map(|bit| fields[bit]).sum::<usize>()
+}
+
 /// Takes fields off the front of the bytes.
 struct Fields<'a>(&'a [u8]);
 
 impl Fields<'_> {
-    fn byte(&mut self) -> Result<u8, Event> {
-        let (&first, rest) = self.0.split_first().ok_or(Event::RecordCutShort)?;
+    fn byte(&mut self) -> u8 {
+        let (&first, rest) = self.0.split_first().expect("the length was checked");
         self.0 = rest;
-        Ok(first)
+        first
     }
 
-    fn number(&mut self) -> Result<usize, Event> {
-        self.byte().map(usize::from)
+    fn number(&mut self) -> usize {
+        self.byte().into()
     }
 
     /// Four bytes, most significant first.
-    fn value(&mut self) -> Result<u32, Event> {
-        Ok(u32::from_be_bytes([
-            self.byte()?,
-            self.byte()?,
-            self.byte()?,
-            self.byte()?,
-        ]))
+    fn value(&mut self) -> u32 {
+        u32::from_be_bytes([self.byte(), self.byte(), self.byte(), self.byte()])
     }
 
-    /// A key map byte, not zero, then one 4-byte value for each standing
-    /// bit, lowest key first.
-    fn cookies(&mut self) -> Result<Vec<(usize, u32)>, Event> {
-        let map = self.byte()?;
-        if map == 0 {
-            return Err(Event::RecordNoKeys);
-        }
+    /// A key map byte, then one 4-byte value for each standing bit, lowest
+    /// key first.
+    fn cookies(&mut self) -> Vec<(usize, u32)> {
+        let map = self.byte();
         let keys = (0..KEYS).filter(|key| map >> key & 1 == 1);
-        keys.map(|key| Ok((key, self.value()?))).collect()
+        keys.map(|key| (key, self.value())).collect()
     }
 }
 
-/// Reads a record; the error is the way in which it is malformed.
-pub fn read(bytes: &[u8]) -> Result<Record, Event> {
-    let (&map, rest) = bytes.split_first().ok_or(Event::RecordEmpty)?;
-    if !INPUT_MAPS.contains(&map) {
-        return Err(Event::RecordMap);
-    }
-    let mut fields = Fields(rest);
-    let url = fields.number()?;
-    let connection = fields.number()?;
-    let cookies = match map & BIT_COOKIES {
-        0 => Vec::new(),
-        _ => fields.cookies()?,
+/// Reads a record whose maps and length were checked.
+pub fn read(bytes: &[u8]) -> Record {
+    let map = bytes[0];
+    let mut fields = Fields(&bytes[1..]);
+    let url = fields.number();
+    let connection = fields.number();
+    let cookies = match has_cookies(bytes) {
+        true => fields.cookies(),
+        false => Vec::new(),
     };
-    let kind = read_kind(map, &mut fields)?;
-    if !fields.0.is_empty() {
-        return Err(Event::RecordTrailing);
-    }
-    Ok(Record {
+    let kind = read_kind(map, &mut fields);
+    assert!(fields.0.is_empty(), "the length was checked");
+    Record {
         kind,
         url,
         connection,
         cookies,
-    })
+    }
 }
 
 /// The field that stands after the cookies.
-fn read_kind(map: u8, fields: &mut Fields) -> Result<Kind, Event> {
-    Ok(match map {
+fn read_kind(map: u8, fields: &mut Fields) -> Kind {
+    match map {
         MAP_DOCUMENT | MAP_DOCUMENT_COOKIES => Kind::DocumentResponse {
-            script: fields.number()?,
+            script: fields.number(),
         },
         MAP_SCRIPT | MAP_SCRIPT_COOKIES => Kind::ScriptResponse {
-            value: fields.value()?,
+            value: fields.value(),
         },
         MAP_REDIRECT | MAP_REDIRECT_COOKIES => Kind::Redirect {
-            target: fields.number()?,
+            target: fields.number(),
         },
         _ => Kind::Load,
-    })
+    }
 }
 
 /// Its URL or target is above 63 or an empty row, its connection above 31, or

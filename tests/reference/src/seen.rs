@@ -48,11 +48,19 @@ events! {
     StateOriginAbove: "4: a script request's origin is above 63",
     StateOriginEmpty: "4: a script request's origin is an empty row",
 
-    RecordEmpty: "5: the record is empty",
-    RecordMap: "5: the map is no input map",
-    RecordCutShort: "5: the record is cut short",
-    RecordTrailing: "5: the record has trailing bytes",
-    RecordNoKeys: "5: the key map is 0",
+    RecordEmpty: "10: the record is empty",
+    RecordMap: "10: the map is no input map",
+    RecordMapRequest: "10: the map is no input map but a request's",
+    RecordMapNoKeys: "10: the map is no input map and the key map is 0",
+
+    RecordNoKeys: "12: the key map is 0 and the length is right for that",
+    RecordNoKeysCut: "12: the key map is 0 and the record is cut short",
+    RecordNoKeysTrailing: "12: the key map is 0 and the record has trailing bytes",
+
+    RecordCutBeforeKeys: "11: the record is cut short before its key map",
+    RecordCutAfterKeys: "11: the record is cut short after its key map",
+    RecordCutPlain: "11: a record without cookies is cut short",
+    RecordTrailing: "11: the record has trailing bytes",
 
     NumberUrlAbove: "6: the URL is above 63",
     NumberUrlEmpty: "6: the URL is an empty row",

@@ -98,10 +98,140 @@ fn i_writers_refuse_a_redirect() {
 #[test]
 fn j_malformed_records() {
     for_each_feed(|mut session| {
-        assert_eq!(session.refuse(&[]), 5);
-        assert_eq!(session.refuse(&[7, 0, 0, 1, 0, 0, 0, 7]), 5);
-        assert_eq!(session.refuse(&[7]), 5);
-        assert_eq!(session.refuse(&[0x0F, 0, 0, 0, 0]), 5);
+        assert_eq!(session.refuse(&[]), 10);
+        assert_eq!(session.refuse(&[7, 0, 0, 1, 0, 0, 0, 7]), 10);
+        assert_eq!(session.refuse(&[7]), 10);
+        assert_eq!(session.refuse(&[0x0F, 0, 0, 0, 0]), 12);
+    });
+}
+
+/// Each input map with the bytes of its record, cookies aside.
+const INPUTS: [(u8, usize); 7] = [
+    (0x03, 3),
+    (0x0B, 4),
+    (0x0F, 4),
+    (0x13, 7),
+    (0x17, 7),
+    (0x23, 4),
+    (0x27, 4),
+];
+const INPUTS_WITH_COOKIES: [u8; 3] = [0x0F, 0x17, 0x27];
+
+/// A record of this length that names URL 64, so that one of right map and
+/// length is refused with 6.
+fn record_of(map: u8, key_map: u8, length: usize) -> Vec<u8> {
+    let mut record = vec![map, 64, 0, key_map];
+    record.resize(length, 0);
+    record
+}
+
+#[test]
+fn a_map_that_no_input_has() {
+    for_each_feed(|mut session| {
+        let strange = |map: &u8| INPUTS.iter().all(|(input, _)| input != map);
+        assert_eq!((0..=255).filter(strange).count(), 249);
+        for map in (0..=255).filter(strange) {
+            for length in [1, 2, 3, 4, 5, 7, 8, 9, 12, 40, 300] {
+                assert_eq!(session.refuse(&record_of(map, 0, length)), 10);
+                assert_eq!(session.refuse(&record_of(map, 1, length)), 10);
+            }
+        }
+    });
+}
+
+#[test]
+fn a_requests_map() {
+    for_each_feed(|mut session| {
+        assert_eq!(session.refuse(&[7, 0]), 10);
+        assert_eq!(session.refuse(&[7, 0, 0]), 10);
+        assert_eq!(session.refuse(&[7, 0, 0, 0]), 10);
+        assert_eq!(session.refuse(&[7, 0, 0, 1, 0, 0, 0]), 10);
+        // The other maps of requests are inputs' too.
+        assert_eq!(session.refuse(&[0x0B, 0, 0, 0]), 7);
+        assert_eq!(session.refuse(&RESPONSE_WITH_7), 7);
+        assert_eq!(session.accept(&[3, 0, 0]).0, [3, 0, 0]);
+    });
+}
+
+#[test]
+fn a_key_map_of_zero() {
+    for_each_feed(|mut session| {
+        assert_eq!(session.refuse(&[0x0F, 0, 0, 0]), 12);
+        assert_eq!(session.refuse(&[0x0F, 0, 0, 0, 0, 0]), 12);
+        assert_eq!(session.refuse(&[0x17, 0, 0, 0, 1, 2, 3, 4]), 12);
+        assert_eq!(session.refuse(&[0x27, 0, 0, 0, 0, 0, 0, 7, 2]), 12);
+        for map in INPUTS_WITH_COOKIES {
+            for length in 4..=300 {
+                assert_eq!(session.refuse(&record_of(map, 0, length)), 12);
+            }
+        }
+    });
+}
+
+#[test]
+fn a_key_map_that_is_not_there() {
+    for_each_feed(|mut session| {
+        assert_eq!(session.refuse(&[0x0F, 0, 0]), 11);
+        for map in INPUTS_WITH_COOKIES {
+            for length in 1..=3 {
+                assert_eq!(session.refuse(&record_of(map, 0, length)), 11);
+            }
+        }
+    });
+}
+
+#[test]
+fn zero_where_no_key_map_stands() {
+    for_each_feed(|mut session| {
+        assert_eq!(session.refuse(&[3, 0, 0, 0]), 11);
+        assert_eq!(session.refuse(&[0x13, 0, 0, 0]), 11);
+        assert_eq!(session.refuse(&[0x23, 0, 0, 0, 0]), 11);
+        after_a(&mut session);
+        assert_eq!(session.accept(&[0x0B, 0, 0, 0]), (vec![], 1));
+    });
+}
+
+#[test]
+fn a_length_that_the_maps_do_not_call_for() {
+    for_each_feed(|mut session| {
+        assert_eq!(session.refuse(&[3]), 11);
+        assert_eq!(session.refuse(&[3, 0]), 11);
+        assert_eq!(session.refuse(&RESPONSE_WITH_7[..8]), 11);
+        for (map, bytes) in INPUTS {
+            if !INPUTS_WITH_COOKIES.contains(&map) {
+                only_this_length(&mut session, map, 0, bytes);
+                continue;
+            }
+            for key_map in 1..=255_u8 {
+                let cookies = 1 + 4 * key_map.count_ones() as usize;
+                only_this_length(&mut session, map, key_map, bytes + cookies);
+            }
+        }
+    });
+}
+
+/// The maps call for this length: cut or lengthened, the record has 11.
+fn only_this_length(session: &mut Session, map: u8, key_map: u8, whole: usize) {
+    for length in (1..=48).chain([255, 256, whole + 256]) {
+        let number = if length == whole { 6 } else { 11 };
+        let record = record_of(map, key_map, length);
+        assert_eq!(session.refuse(&record), number, "{record:02x?}");
+    }
+}
+
+const MALFORMED: [&[u8]; 4] = [&[], &[7], &[0x0F, 0, 0, 0], &[3, 0]];
+
+#[test]
+fn a_record_is_read_after_policy_scripts_and_state() {
+    for_each_feed(|mut session| {
+        let numbers = |session: &mut Session| MALFORMED.map(|record| session.refuse(record));
+        assert_eq!(numbers(&mut session), [10, 10, 12, 11]);
+        session.state[STATE_PRESENT] = 256;
+        assert_eq!(numbers(&mut session), [4; 4]);
+        session.scripts.pop();
+        assert_eq!(numbers(&mut session), [3; 4]);
+        session.policy.pop();
+        assert_eq!(numbers(&mut session), [2; 4]);
     });
 }
 
@@ -122,14 +252,14 @@ fn a_script_is_stopped_or_goes_on() {
     });
 }
 
-fn feed_into(feed: Feed, length: usize) -> Answer {
+fn feed_into(feed: Feed, record: &[u8], length: usize) -> Answer {
     let mut state = vec![0; STATE_WORDS];
     let mut out = vec![0xA5; length];
     let answer = feed(
         &document(),
         &[0; SCRIPTS_BYTES],
         &mut state,
-        &LOAD_0_ON_0,
+        record,
         &mut out,
     );
     if answer.number != 0 {
@@ -147,9 +277,12 @@ fn a_short_output_buffer() {
             bytes: 0,
             steps: 0,
         };
-        assert_eq!(feed_into(feed, 0), refused);
-        assert_eq!(feed_into(feed, OUTPUT_BYTES - 1), refused);
-        assert_eq!(feed_into(feed, OUTPUT_BYTES).number, 0);
+        assert_eq!(feed_into(feed, &LOAD_0_ON_0, 0), refused);
+        assert_eq!(feed_into(feed, &LOAD_0_ON_0, OUTPUT_BYTES - 1), refused);
+        assert_eq!(feed_into(feed, &LOAD_0_ON_0, OUTPUT_BYTES).number, 0);
+        for record in MALFORMED {
+            assert_eq!(feed_into(feed, record, OUTPUT_BYTES - 1), refused);
+        }
     }
 }
 
@@ -171,7 +304,7 @@ const WALK_LINES: &str = "\
 3 0 8 0
 > 0 0 01
 4 8 0 0
-5 5 0 0
+5 10 0 0
 end 3 2
 ";
 
@@ -179,6 +312,36 @@ end 3 2
 fn walk_prints_the_example() {
     let input = walk_input(&WALK_RECORDS);
     assert_eq!(reference::walk(&input), WALK_LINES);
+}
+
+/// Empty, a request's map, key map 00 in three lengths, key map cut off, cut,
+/// trailing.
+#[test]
+fn walk_prints_why_a_record_is_malformed() {
+    let records: [&[u8]; 8] = [
+        &[],
+        &[7],
+        &[0x0F, 0, 0, 0],
+        &[0x0F, 0, 0, 0, 0],
+        &[0x0F, 0, 0, 0, 0, 0],
+        &[0x0F, 0, 0],
+        &[3, 0],
+        &[3, 0, 0, 0],
+    ];
+    let with_length = |record: &&[u8]| [&[record.len() as u8], *record].concat();
+    let input = walk_input(&records.iter().flat_map(with_length).collect::<Vec<_>>());
+    let lines = "\
+1 10 0 0
+2 10 0 0
+3 12 0 0
+4 12 0 0
+5 12 0 0
+6 11 0 0
+7 11 0 0
+8 11 0 0
+end 0 8
+";
+    assert_eq!(reference::walk(&input), lines);
 }
 
 #[test]

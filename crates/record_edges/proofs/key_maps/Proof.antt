@@ -4,10 +4,10 @@ use Rattle.record_edges.proofs.key_maps.Statement.{statement}
 use Rattle.record_edges.proofs.key_maps.Tie as tie
 
 abbrev Inv-loop : tie.InvT-loop
-Inv-loop direction map length bytes₀ n₀ keys₀ bytes n keys = (keys ≤ 256) × (n ≤ keys) × (lib.ListN.length bytes ≡ 46)
+Inv-loop direction map length number bytes₀ n₀ keys₀ bytes n keys = (keys ≤ 256) × (n ≤ keys) × (lib.ListN.length bytes ≡ 46)
 
 abbrev μ-loop : tie.MeasureT-loop
-μ-loop direction map length bytes₀ n₀ keys₀ bytes n keys = 256 - keys
+μ-loop direction map length number bytes₀ n₀ keys₀ bytes n keys = 256 - keys
 
 pub key-maps-spec : {M : Type 1} → statement M
 key-maps-spec =

@@ -4,10 +4,10 @@ use Rattle.record_edges.proofs.with_map.Statement.{statement}
 use Rattle.record_edges.proofs.with_map.Tie as tie
 
 abbrev Inv-loop : tie.InvT-loop
-Inv-loop direction map length₀ length = length ≤ 46
+Inv-loop direction map before₀ length₀ before length = length ≤ 46
 
 abbrev μ-loop : tie.MeasureT-loop
-μ-loop direction map length₀ length = 46 - length
+μ-loop direction map before₀ length₀ before length = 46 - length
 
 pub with-map-spec : {M : Type 1} → statement M
 with-map-spec =
