@@ -1,4 +1,4 @@
-// The refusals 1 to 5, in their order, and then what the record's kind asks and does.
+// The refusals of what is lent, that of a malformed record, and then what the record's kind asks and does.
 ghost use mathlib.Core.Path.{_≡_};
 ghost use Rattle.machine.specs.Machine.{plainMap, arrivedOf, eventOf, feed};
 ghost use Rattle.monitor.specs.Answers.{fed, reaction};

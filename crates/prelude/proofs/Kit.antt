@@ -3,7 +3,7 @@ pub use Prim.Native.Nat.{ℕ, _≤_, _<_, _+_, _-_, suc, _^_, zero, _*_, zero-le
 pub use native.Mathlib.Nat.{zero-lt-suc, add-zero, zero-add, le-of-suc-le-suc, not-suc-le-zero, mod-eq-of-lt, div-one, one-mul}
 pub use native.Mathlib.Numerals.{add-one}
 pub use native.Mathlib.Omega.{arith}
-pub use mathlib.Core.Bool.{true, _&&_, Bool, false, not, _||_, and-assoc, true≢false, false≢true, cond, and-true, and-false}
+pub use mathlib.Core.Bool.{true, _&&_, Bool, false, not, _||_, and-assoc, true≢false, false≢true, cond, and-true}
 pub use mathlib.Core.List.{List, _∷_, [], _++_, map, append-assoc, append-nil}
 pub use mathlib.Core.Logic.{⊎-elim}
 pub use mathlib.Core.Path.{_≡_, sym, _∙_, refl, ap, subst, ap₂}

@@ -1,7 +1,7 @@
 -- What decoding answers at each of its tests, and what acceptance says of them.
-use Rattle.prelude.proofs.Kit.{ℕ, _<_, _+_, arith, true, Bool, false, not, _&&_, _||_, true≢false, and-false, List, _≡_, refl, ne-eqb, not-false, eq-eqb}
+use Rattle.prelude.proofs.Kit.{ℕ, _+_, arith, true, Bool, false, not, _&&_, _||_, true≢false, List, _≡_, refl, ne-eqb, not-false, eq-eqb}
 use Rattle.prelude.proofs.Kit.{T, eqb, eqb→eq, ltb, lt→ltb, length, take, and-l}
-use mathlib.Core.Bool.{or-true}
+use mathlib.Core.Bool.{or-true, and-false}
 use borrow.Author.Tests.{eqb-true}
 use Rattle.prelude.specs.Refusals.{accepted}
 use Rattle.prelude.proofs.Refusals.{NoneOf, nth, first-is, none-applies, none-applied}
@@ -68,7 +68,7 @@ or-false true y e = absurd (true≢false e)
 or-false false true e = (refl, refl)
 or-false false false e = absurd (true≢false e)
 
--- a test that fails only where another one, which it needs, fails
+-- of two tests that are not both passed, the second implying the first, the second is not passed
 and-false-needed : (x y : Bool) → (T y → T x) → x && y ≡ false → y ≡ false
 and-false-needed x false needs e = refl
 and-false-needed true true needs e = absurd (true≢false e)

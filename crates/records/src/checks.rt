@@ -64,7 +64,7 @@ pub fn keys_missing(map: u8, keys: u8) -> bool
     keys == 0
 }
 
-// The same, of a record with so many bytes whose key map byte is there.
+// The same of a record that has so many bytes, and among them its key map.
 pub fn keys_zero(map: u8, keys: u8, length: usize) -> bool
     ensures { λ r. ⌜ r ≡ ltb (keyMapAt map) length && keysMissing map keys ⌝ }
 {
