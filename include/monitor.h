@@ -59,7 +59,7 @@ enum {
     MONITOR_LONGEST_REQUEST = 37
 };
 
-/* The number of an answer: the first of these that applies, in this order. */
+/* The number of an answer: of the first refusal that applies, in this order, or 0 where none does. */
 enum monitor_number {
     MONITOR_ACCEPTED = 0,
     /* the output has fewer than MONITOR_OUT_BYTES bytes, however few this record needs */

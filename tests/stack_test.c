@@ -123,7 +123,7 @@ int main(void)
     measure("a redirect", MONITOR_ACCEPTED, MONITOR_LONGEST_REQUEST - 1, 0); /* a document's: no handler */
     everything();
     record_bytes = 0;
-    measure("refused after every check: an empty record", MONITOR_KIND_UNKNOWN, 0, 0);
+    measure("refused after policy and state: an empty record", MONITOR_KIND_UNKNOWN, 0, 0);
     state_words = 0;
     measure("refused: a state of no words", MONITOR_STATE_UNSOUND, 0, 0);
     out_bytes = 0;

@@ -126,7 +126,7 @@ refusals! {
     /// state of zeros is sound, and a state that is sound under a policy stays sound under it, whatever is fed.
     StateUnsound = 4, "the state has the wrong length or is not sound";
     /// The record is malformed, of an unknown kind: it is empty, or its map byte is none of those that are fed, as from a newer sender.
-    KindUnknown = 10, "the record is of no known kind";
+    KindUnknown = 10, "the record is of an unknown kind";
     /// The record is malformed, with an empty key map: its map byte says that cookies follow, and the key map byte is there and 0, whatever
     /// the length.
     KeyMapEmpty = 12, "the record's key map is empty";

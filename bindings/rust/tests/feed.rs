@@ -125,6 +125,15 @@ fn buffers_are_refused_by_their_length() {
 }
 
 #[test]
+fn refusals_are_listed_as_they_are_asked() {
+    let asked: Vec<u32> = Refusal::ALL
+        .iter()
+        .map(|refusal| refusal.number())
+        .collect();
+    assert_eq!(asked, [1, 2, 3, 4, 10, 12, 11, 6, 7, 8, 9]);
+}
+
+#[test]
 fn a_refusal_has_its_number_and_its_words() {
     assert_eq!(Refusal::OutputShort.number(), 1);
     assert_eq!(Refusal::KindUnknown.number(), 10);

@@ -5,7 +5,7 @@ use Rattle.labels.specs.Membership.{allBelow, anyBelow, subset, share}
 use Rattle.labels.specs.Sets.{holds, empty, all, only}
 use Rattle.records.specs.Bytes.{number, digits}
 use Rattle.records.specs.Layout.{widths, start, size, longest, join, split, fitWidths, values, fromValues}
-use Rattle.records.specs.Codec.{isOneOf, keysMissing, keysOf, mapUnknown, keysZero, lengthOther, readRefusal, fieldsOf, decoded, carriable, bytesOf, writeRefusal, encoded, firstRecord, readAtMost, readRun, writeRun}
+use Rattle.records.specs.Codec.{isOneOf, noKeySet, keysOf, mapUnknown, keysZero, lengthOther, readRefusal, fieldsOf, decoded, carriable, bytesOf, writeRefusal, encoded, firstRecord, readAtMost, readRun, writeRun}
 use Rattle.machine.specs.Policy.{emptyRow, rowWellFormed, connectionWellFormed, wellFormed, isUrl, fits, mayStore, mayCarry, mayRead, mayWrite, maySend, loadReaders, loadWriters, redirectReaders, redirectWriters}
 use Rattle.machine.specs.Session.{has, mapBelow, packed, kindOf, originOf, handlerOf, urlOf, cookieSound, hostSound, urlSound, documentSound, scriptSound, connectionSound, sound, setCookie, storeCookie, storeCookies, attaches, setConnection, requestMap, request, send}
 use Rattle.machine.specs.Scripts.{stepOf, stepAt, ended, goesOn, goesOnAfter, step, stopped, followed, runFrom, runScript}
@@ -14,7 +14,7 @@ use Rattle.machine.specs.Machine.{cookiesOf, arrivedOf, eventOf, named, 
 unfoldable pub machine : Unit {0}
 unfolding allBelow anyBelow subset share holds empty all only
     number digits widths start size longest join split fitWidths values fromValues
-    isOneOf keysMissing keysOf mapUnknown keysZero lengthOther readRefusal fieldsOf decoded carriable bytesOf writeRefusal encoded firstRecord readAtMost readRun writeRun
+    isOneOf noKeySet keysOf mapUnknown keysZero lengthOther readRefusal fieldsOf decoded carriable bytesOf writeRefusal encoded firstRecord readAtMost readRun writeRun
     branch keep firstOf
     emptyRow rowWellFormed connectionWellFormed wellFormed isUrl fits mayStore mayCarry mayRead mayWrite maySend loadReaders loadWriters redirectReaders redirectWriters
     has mapBelow packed kindOf originOf handlerOf urlOf cookieSound hostSound urlSound documentSound scriptSound connectionSound sound setCookie storeCookie storeCookies attaches setConnection requestMap request send

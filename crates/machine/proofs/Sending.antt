@@ -10,7 +10,7 @@ use Rattle.records.specs.declared.Direction.the-variants.{Request}
 use Rattle.records.specs.declared.Record.{Record}
 use Rattle.records.specs.Bytes.{bit}
 use Rattle.records.specs.Layout.{keyNumbers, documentRequest, scriptRequest, withCookies, longest, widths, values}
-use Rattle.records.specs.Codec.{isOneOf, keysMissing, carriable}
+use Rattle.records.specs.Codec.{isOneOf, noKeySet, carriable}
 use Rattle.records.specs.RoundTrips.{EightCookies}
 use Rattle.records.proofs.RoundTrips.{AllCarriable, none, more}
 use Rattle.records.proofs.Carriable.{Fit, carriable-by}
@@ -56,7 +56,7 @@ module _ (p s : List ℕ) (n kind handler u : ℕ) (values-small : (k : ℕ) →
       (c 0 tt, (c 1 tt, (c 2 tt, (c 3 tt, (c 4 tt, (c 5 tt, (c 6 tt, (c 7 tt, tt))))))))
 
   request-carriable : T (carriable Request (request p s n kind handler u))
-  unfolding request requestMap isOneOf keysMissing widths values
+  unfolding request requestMap isOneOf noKeySet widths values
   request-carriable =
       let cs = cookies-fit in
       let l : keys < 256 = map-below hostKeys (attaches p s u) in

@@ -7,7 +7,6 @@ use libc::STDOUT_FILENO;
 use monitor::Answer;
 use monitor::OUTPUT_ROOM;
 use policy::words::URL_ROWS;
-use records::KIND_UNKNOWN;
 use scripts::TABLE_BYTES;
 
 // Room for standard input; what does not fit would be missing from the output.
@@ -248,7 +247,7 @@ fn set_map(record: &mut [u8], map: u8) {
 }
 
 fn every_length(words: &[u32], record: &[u8], map: u32) {
-    let mut before = KIND_UNKNOWN;
+    let mut before = 10;
     for length in 0..=record.len() {
         let number = number_of(words, &record[0..length]);
         row(map, length, before, number);

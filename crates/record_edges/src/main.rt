@@ -42,22 +42,25 @@ fn same(a: Counts, b: Counts) -> bool {
     (a.accepted == b.accepted) & (a.kind == b.kind) & (a.keys == b.keys) & (a.length == b.length)
 }
 
-// The number with which the first `length` bytes are read; one that no record has where they are accepted and not written back at that length.
+// What is counted nowhere: a record that is accepted and not written back at its length.
+const NOT_WRITTEN_BACK: u32 = 255;
+
+// The number with which the first `length` bytes are read.
 fn number_of(direction: Direction, bytes: &[u8], length: usize) -> u32 {
     if bytes.len() < length {
-        return 255;
+        return NOT_WRITTEN_BACK;
     }
     let read = records::decode(direction, &bytes[0..length]);
-    if read.number != records::ACCEPTED {
+    if read.number != 0 {
         return read.number;
     }
     let fields = read.fields;
     let mut out = [0u8; 46];
     let back = records::encode(direction, fields, &mut out);
     if back.length == length {
-        records::ACCEPTED
+        0
     } else {
-        255
+        NOT_WRITTEN_BACK
     }
 }
 
@@ -85,10 +88,10 @@ fn key_maps(direction: Direction, map: u8, length: usize, number: u32) -> u32 {
 
 fn counts_of(direction: Direction, map: u8, length: usize) -> Counts {
     Counts {
-        accepted: key_maps(direction, map, length, records::ACCEPTED),
-        kind: key_maps(direction, map, length, records::KIND_UNKNOWN),
-        keys: key_maps(direction, map, length, records::KEY_MAP_EMPTY),
-        length: key_maps(direction, map, length, records::CUT_OR_TOO_LONG),
+        accepted: key_maps(direction, map, length, 0),
+        kind: key_maps(direction, map, length, 10),
+        keys: key_maps(direction, map, length, 12),
+        length: key_maps(direction, map, length, 11),
     }
 }
 

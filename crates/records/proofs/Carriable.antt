@@ -4,7 +4,7 @@ use Rattle.prelude.specs.Refusals.{accepted}
 use Rattle.records.specs.declared.Direction.{Direction}
 use Rattle.records.specs.declared.Record.{Record}
 use Rattle.records.specs.Layout.{maps, widths, fitWidths, values}
-use Rattle.records.specs.Codec.{isOneOf, keysMissing, decoded, carriable}
+use Rattle.records.specs.Codec.{isOneOf, noKeySet, decoded, carriable}
 use Rattle.records.proofs.RoundTrips.{carried-back}
 
 -- each value fits its width, said of numbers
@@ -20,12 +20,12 @@ all-fit (w ∷ ws) [] h = tt
 all-fit (w ∷ ws) (v ∷ vs) h = and-i (ltb v (256 ^ w)) (fitWidths ws vs) (lt→ltb v (256 ^ w) (h .0)) (all-fit ws vs (h .1))
 
 module _ (d : Direction) where
-  pub carriable-by : (r : Record) → T (isOneOf (r .map) (maps d)) → T (not (keysMissing (r .map) (r .keys))) → Fit (widths (r .map) (r .keys)) (values r)
+  pub carriable-by : (r : Record) → T (isOneOf (r .map) (maps d)) → T (not (noKeySet (r .map) (r .keys))) → Fit (widths (r .map) (r .keys)) (values r)
       → T (carriable d r)
   unfolding carriable
   carriable-by r known keyed h =
       let ws = widths (r .map) (r .keys) in
-      let without = not (keysMissing (r .map) (r .keys)) in
+      let without = not (noKeySet (r .map) (r .keys)) in
       and-i (isOneOf (r .map) (maps d)) (without && fitWidths ws (values r)) known (and-i without (fitWidths ws (values r)) keyed (all-fit ws (values r) h))
 
   pub decoded-carriable : (bytes : List ℕ) → T (areBytes bytes) → decoded d bytes .number ≡ accepted → T (carriable d (decoded d bytes .fields))

@@ -3,10 +3,10 @@ use Rattle.prelude.specs.Choice.{branch}
 use Rattle.prelude.specs.Refusals.{firstOf}
 use Rattle.records.specs.Bytes.{number}
 use Rattle.records.specs.Layout.{widths, start, size, split, values, fromValues}
-use Rattle.records.specs.Codec.{isOneOf, keysMissing, keysOf, mapUnknown, keysZero, lengthOther, readRefusal, fieldsOf, decoded}
+use Rattle.records.specs.Codec.{isOneOf, noKeySet, keysOf, mapUnknown, keysZero, lengthOther, readRefusal, fieldsOf, decoded}
 use Rattle.records.specs.Cases.{allZero, gives, allGive, MalformedRecords}
 
 pub malformed-records : MalformedRecords
 unfolding branch firstOf number widths start size split values fromValues
-    isOneOf keysMissing keysOf mapUnknown keysZero lengthOther readRefusal fieldsOf decoded allZero gives allGive
+    isOneOf noKeySet keysOf mapUnknown keysZero lengthOther readRefusal fieldsOf decoded allZero gives allGive
 malformed-records = tt

@@ -1,5 +1,5 @@
 -- What decoding answers at each of its tests, and what acceptance says of them.
-use Rattle.prelude.proofs.Kit.{ℕ, _+_, arith, true, Bool, false, not, _&&_, _||_, true≢false, List, _≡_, refl, ne-eqb, not-false, eq-eqb}
+use Rattle.prelude.proofs.Kit.{ℕ, arith, true, Bool, false, not, _&&_, _||_, true≢false, List, _≡_, refl, ne-eqb, not-false, eq-eqb}
 use Rattle.prelude.proofs.Kit.{T, eqb, eqb→eq, ltb, lt→ltb, length, take, and-l}
 use mathlib.Core.Bool.{or-true, and-false}
 use borrow.Author.Tests.{eqb-true}
@@ -8,8 +8,7 @@ use Rattle.prelude.proofs.Refusals.{NoneOf, nth, first-is, none-applies, none-a
 use Rattle.records.specs.declared.Direction.{Direction}
 use Rattle.records.specs.Bytes.{bit}
 use Rattle.records.specs.Layout.{cookiesBit, maps, widths, start, keyMapAt, size}
-use Rattle.records.specs.Codec.{refused, isOneOf, keysMissing, mapOf, keysOf, mapUnknown, keysZero, lengthOther, readRefusals, readRefusal, fieldsOf, decoded}
-use Rattle.records.proofs.Writing.{front-end, size-split}
+use Rattle.records.specs.Codec.{refused, isOneOf, noKeySet, mapOf, keysOf, mapUnknown, keysZero, lengthOther, readRefusals, readRefusal, fieldsOf, decoded}
 
 -- the place after the last field is the length
 pub end-is-size : (m keys : ℕ) → start 14 m keys ≡ size m keys
@@ -21,7 +20,7 @@ module _ (d : Direction) (bytes : List ℕ) where
   pub refused-by : (n : ℕ) → NoneOf (take n (readRefusals d bytes)) → nth accepted n (readRefusals d bytes) .applies ≡ true
       → eqb (nth accepted n (readRefusals d bytes) .answer) accepted ≡ false → refused (nth accepted n (readRefusals d bytes) .answer) ≡ decoded d bytes
   unfolding decoded readRefusal
-  refused-by n none e number = rw (first-is accepted n (readRefusals d bytes) none e, number)
+  refused-by n none e refuses = rw (first-is accepted n (readRefusals d bytes) none e, refuses)
 
   pub map-empty : length bytes ≡ 0 → mapUnknown d bytes ≡ true
   unfolding mapUnknown
@@ -35,11 +34,7 @@ module _ (d : Direction) (bytes : List ℕ) where
   unfolding mapUnknown
   map-known ne e = rw (ne-eqb (length bytes) 0 ne, e)
 
-  pub keys-zero : (b : Bool) → ltb (keyMapAt (mapOf bytes)) (length bytes) && keysMissing (mapOf bytes) (keysOf bytes) ≡ b → keysZero bytes ≡ b
-  unfolding keysZero
-  keys-zero b e = e
-
-  pub keys-set : keysMissing (mapOf bytes) (keysOf bytes) ≡ false → keysZero bytes ≡ false
+  pub keys-set : noKeySet (mapOf bytes) (keysOf bytes) ≡ false → keysZero bytes ≡ false
   unfolding keysZero
   keys-set e = rw (e, and-false)
 
@@ -74,19 +69,15 @@ and-false-needed x false needs e = refl
 and-false-needed true true needs e = absurd (true≢false e)
 and-false-needed false true needs e = absurd (needs tt)
 
-key-map-start : (m : ℕ) → keyMapAt m ≡ 1 + bit m 0 + bit m 1
-unfolding start widths
-key-map-start m = omega arith
-
 -- a record with cookies that is as long as its maps call for has its key map
-key-map-there : (m keys n : ℕ) → n ≡ size m keys → T (keysMissing m keys) → T (ltb (keyMapAt m) n)
-unfolding keysMissing
+key-map-there : (m keys n : ℕ) → n ≡ size m keys → T (noKeySet m keys) → T (ltb (keyMapAt m) n)
+unfolding noKeySet start size widths
 key-map-there m keys n e t =
     let carried = eqb→eq (bit m cookiesBit) 1 (and-l (eqb (bit m cookiesBit) 1) (eqb keys 0) t) in
-    lt→ltb (keyMapAt m) n (omega (arith, e, carried, key-map-start m, front-end m keys, size-split m keys))
+    lt→ltb (keyMapAt m) n (omega (arith, e, carried))
 
 module _ (d : Direction) (bytes : List ℕ) (e : readRefusal d bytes ≡ accepted) where
-  pub read-tests : NoneOf (readRefusals d bytes)
+  read-tests : NoneOf (readRefusals d bytes)
   unfolding readRefusal
   read-tests = none-applied (readRefusals d bytes) tt e
 
@@ -98,8 +89,8 @@ module _ (d : Direction) (bytes : List ℕ) (e : readRefusal d bytes ≡ accepte
   unfolding lengthOther
   right-length = eqb-true (length bytes) (size (mapOf bytes) (keysOf bytes)) (not-false (eqb (length bytes) (size (mapOf bytes) (keysOf bytes))) (read-tests .1 .1 .0))
 
-  pub keyed : keysMissing (mapOf bytes) (keysOf bytes) ≡ false
+  pub keyed : noKeySet (mapOf bytes) (keysOf bytes) ≡ false
   unfolding keysZero
   keyed =
       let m = mapOf bytes in
-      and-false-needed (ltb (keyMapAt m) (length bytes)) (keysMissing m (keysOf bytes)) (key-map-there m (keysOf bytes) (length bytes) right-length) (read-tests .1 .0)
+      and-false-needed (ltb (keyMapAt m) (length bytes)) (noKeySet m (keysOf bytes)) (key-map-there m (keysOf bytes) (length bytes) right-length) (read-tests .1 .0)

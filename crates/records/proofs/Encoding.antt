@@ -12,7 +12,7 @@ use Rattle.records.specs.declared.Direction.the-variants.{Input, Request
 use Rattle.records.specs.declared.Record.{Record}
 use Rattle.records.specs.Bytes.{bit}
 use Rattle.records.specs.Layout.{keyNumbers, maps, longest, widths, sum, fitWidths, values, size}
-use Rattle.records.specs.Codec.{noRoom, notCarriable, isOneOf, keysMissing, carriable, bytesOf, writeRefusals, writeRefusal, encoded}
+use Rattle.records.specs.Codec.{noRoom, notCarriable, isOneOf, noKeySet, carriable, bytesOf, writeRefusals, writeRefusal, encoded}
 use Rattle.records.specs.Places.{frontWidths, cookieWidths, backWidths}
 use Rattle.records.proofs.Joining.{length-join}
 use Rattle.records.proofs.Writing.{widths-split, values-split, size-split, front-sum, front-count, cookie-count}
@@ -97,17 +97,17 @@ module _ (r : Record) (eight : length (r .cookies) ≡ 8) where
 module _ (d : Direction) (r : Record) (ok : T (carriable d r)) where
   pub known : T (isOneOf (r .map) (maps d))
   unfolding carriable
-  known = and-l (isOneOf (r .map) (maps d)) (not (keysMissing (r .map) (r .keys)) && fitWidths (widths (r .map) (r .keys)) (values r)) ok
+  known = and-l (isOneOf (r .map) (maps d)) (not (noKeySet (r .map) (r .keys)) && fitWidths (widths (r .map) (r .keys)) (values r)) ok
 
-  others : T (not (keysMissing (r .map) (r .keys)) && fitWidths (widths (r .map) (r .keys)) (values r))
+  others : T (not (noKeySet (r .map) (r .keys)) && fitWidths (widths (r .map) (r .keys)) (values r))
   unfolding carriable
-  others = and-r (isOneOf (r .map) (maps d)) (not (keysMissing (r .map) (r .keys)) && fitWidths (widths (r .map) (r .keys)) (values r)) ok
+  others = and-r (isOneOf (r .map) (maps d)) (not (noKeySet (r .map) (r .keys)) && fitWidths (widths (r .map) (r .keys)) (values r)) ok
 
-  pub keyed : T (not (keysMissing (r .map) (r .keys)))
-  keyed = and-l (not (keysMissing (r .map) (r .keys))) (fitWidths (widths (r .map) (r .keys)) (values r)) others
+  pub keyed : T (not (noKeySet (r .map) (r .keys)))
+  keyed = and-l (not (noKeySet (r .map) (r .keys))) (fitWidths (widths (r .map) (r .keys)) (values r)) others
 
   pub fitting : T (fitWidths (widths (r .map) (r .keys)) (values r))
-  fitting = and-r (not (keysMissing (r .map) (r .keys))) (fitWidths (widths (r .map) (r .keys)) (values r)) others
+  fitting = and-r (not (noKeySet (r .map) (r .keys))) (fitWidths (widths (r .map) (r .keys)) (values r)) others
 
 module _ (d : Direction) (r : Record) (out : List ℕ) where
   pub no-room : length out < longest d → record { number = noRoom; length = 0; buffer = out } ≡ encoded d r out

@@ -11,7 +11,7 @@ use Rattle.prelude.proofs.Refusals.{NoneOf, none-applied}
 use Rattle.records.specs.declared.Direction.{Direction}
 use Rattle.records.specs.declared.Record.{Record}
 use Rattle.records.specs.Layout.{maps, longest, widths, sum, join, split, values, fromValues, size}
-use Rattle.records.specs.Codec.{isOneOf, keysMissing, mapOf, keysOf, mapUnknown, readRefusal, fieldsOf, decoded, carriable, bytesOf, Written, writeRefusals, writeRefusal, encoded, firstRecord, readAtMost, readRun, writeRun, followedBy}
+use Rattle.records.specs.Codec.{isOneOf, noKeySet, mapOf, keysOf, mapUnknown, readRefusal, fieldsOf, decoded, carriable, bytesOf, Written, writeRefusals, writeRefusal, encoded, firstRecord, readAtMost, readRun, writeRun, followedBy}
 use Rattle.records.specs.RoundTrips.{EightCookies, WrittenIsRead, ReadIsWritten, RunIsRead, AllEightCookies, LongestIs}
 use Rattle.records.proofs.Values.{keys-first, same-keys}
 use Rattle.records.proofs.Decoding.{keys-set, decoded-accepted, accepts, known, right-length, keyed as read-keyed}
@@ -79,7 +79,7 @@ module _ (d : Direction) (r : Record) (eight : EightCookies r) (ok : T (carriabl
   accepted-back =
       accepts d (bytesOf r) nonempty
       (rw map-alone (is-true (isOneOf (r .map) (maps d)) (mapped d r ok)))
-      (keys-set d (bytesOf r) (rw (map-alone, keys-alone) (is-false (keysMissing (r .map) (r .keys)) (keyed d r ok))))
+      (keys-set d (bytesOf r) (rw (map-alone, keys-alone) (is-false (noKeySet (r .map) (r .keys)) (keyed d r ok))))
       (rw (map-alone, keys-alone) (bytes-length r))
 
   tail-parted : fromValues (r .map) (split (widths (r .map) (r .keys)) (drop 1 (bytesOf r))) ≡ r

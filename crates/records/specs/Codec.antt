@@ -41,9 +41,9 @@ unfoldable pub isOneOf : ℕ → List ℕ → Bool
 isOneOf n [] = false
 isOneOf n (m ∷ ms) = eqb n m || isOneOf n ms
 
--- a record with cookies has a key map that is not zero
-unfoldable pub keysMissing : ℕ → ℕ → Bool
-keysMissing m keys = eqb (bit m cookiesBit) 1 && eqb keys 0
+-- cookies are carried, and the key map has no key
+unfoldable pub noKeySet : ℕ → ℕ → Bool
+noKeySet m keys = eqb (bit m cookiesBit) 1 && eqb keys 0
 
 -- ---- decoding
 
@@ -61,7 +61,7 @@ mapUnknown d bytes = eqb (length bytes) 0 || not (isOneOf (mapOf bytes) (maps d)
 
 -- 12: cookies are carried, and the key map byte is there and zero, whatever the length
 unfoldable pub keysZero : List ℕ → Bool
-keysZero bytes = ltb (keyMapAt (mapOf bytes)) (length bytes) && keysMissing (mapOf bytes) (keysOf bytes)
+keysZero bytes = ltb (keyMapAt (mapOf bytes)) (length bytes) && noKeySet (mapOf bytes) (keysOf bytes)
 
 -- 11: the length is not what the maps call for; so it is where the record ends before its key map byte
 unfoldable pub lengthOther : List ℕ → Bool
@@ -90,7 +90,7 @@ decoded d bytes = record { number = readRefusal d bytes; fields = cond (eqb (rea
 unfoldable pub carriable : Direction → Record → Bool
 carriable d r =
     isOneOf (r .map) (maps d)
-    && (not (keysMissing (r .map) (r .keys))
+    && (not (noKeySet (r .map) (r .keys))
     && fitWidths (widths (r .map) (r .keys)) (values r))
 
 unfoldable pub bytesOf : Record → List ℕ

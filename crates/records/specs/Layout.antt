@@ -101,7 +101,7 @@ sum (n ∷ ns) = n + sum ns
 unfoldable pub start : ℕ → ℕ → ℕ → ℕ
 start i m keys = 1 + sum (take i (widths m keys))
 
--- the place of the key map byte; no key moves it
+-- the place of the key map byte, which is field 2; no key moves it
 abbrev pub keyMapAt : ℕ → ℕ
 keyMapAt m = start 2 m 0
 

@@ -1,10 +1,9 @@
 // What is asked of a record's maps and of its fields.
 ghost use mathlib.Core.Path.{_≡_};
-ghost use mathlib.Core.Bool.{_&&_};
 ghost use Prim.Native.Nat.{ℕ, _*_, _^_, _<_};
 ghost use lib.Dec.{eqb, ltb};
-ghost use Rattle.records.specs.Layout.{maps, longest, widths, keyMapAt, values, fitWidths};
-ghost use Rattle.records.specs.Codec.{isOneOf, keysMissing, carriable};
+ghost use Rattle.records.specs.Layout.{maps, longest, widths, values, fitWidths};
+ghost use Rattle.records.specs.Codec.{isOneOf, noKeySet, mapOf, keysOf, keysZero, carriable};
 ghost use Rattle.records.specs.Places.{cookieWidths};
 use super::Direction;
 use super::Record;
@@ -55,8 +54,8 @@ pub fn longest(direction: Direction) -> usize
 }
 
 // Whether cookies are carried and no key is set.
-pub fn keys_missing(map: u8, keys: u8) -> bool
-    ensures { λ r. ⌜ r ≡ keysMissing map keys ⌝ }
+pub fn no_key_set(map: u8, keys: u8) -> bool
+    ensures { λ r. ⌜ r ≡ noKeySet map keys ⌝ }
 {
     if bit(map, COOKIES) == 0 {
         return false;
@@ -64,11 +63,12 @@ pub fn keys_missing(map: u8, keys: u8) -> bool
     keys == 0
 }
 
-// The same of a record that has so many bytes, and among them its key map.
-pub fn keys_zero(map: u8, keys: u8, length: usize) -> bool
-    ensures { λ r. ⌜ r ≡ ltb (keyMapAt map) length && keysMissing map keys ⌝ }
+// Whether cookies are carried, and the key map byte is there and zero.
+pub fn keys_zero(map: u8, keys: u8, bytes: &[u8]) -> bool
+    requires { ⌜ (map ≡ mapOf (now bytes)) × (keys ≡ keysOf (now bytes)) ⌝ }
+    ensures { λ r. ⌜ r ≡ keysZero (now (bytes .entry)) ⌝ }
 {
-    (Places::of(map, 0).keys < length) & keys_missing(map, keys)
+    (Places::of(map, 0).keys < bytes.len()) & no_key_set(map, keys)
 }
 
 // What is left over of a value that is not carried: the value itself; 0 where it is carried. So it is 0 just where the
@@ -118,7 +118,7 @@ pub fn carriable(direction: Direction, fields: Record) -> bool
     if !is_map(direction, fields.map) {
         return false;
     }
-    if keys_missing(fields.map, fields.keys) {
+    if no_key_set(fields.map, fields.keys) {
         return false;
     }
     fields_fit(fields)

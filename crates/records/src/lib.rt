@@ -20,7 +20,7 @@ use fields::read;
 use fields::write;
 use places::Places;
 
-// The number of what is accepted, and of what encoding refuses.
+// The numbers of what is accepted and of what encoding refuses.
 pub const ACCEPTED: u32 = 0;
 
 pub const NO_ROOM: u32 = 1;
@@ -83,8 +83,8 @@ fn refused(number: u32) -> Decoded
     }
 }
 
-// Reads a record: 0 and its fields; 10 where it is empty or the direction does not have its map; 12 where its key map byte is there and zero,
-// though cookies are carried; 11 where its length is not what its maps call for.
+// Reads a record: 0 and its fields; 10 where it is empty or the direction does not have its map; 12 where it carries cookies and its key map
+// byte is there and zero; 11 where its length is not what its maps call for.
 pub fn decode(direction: Direction, bytes: &[u8]) -> Decoded
     ensures { λ r. ⌜ r ≡ decoded direction (now (bytes .entry)) ⌝ }
 {
@@ -96,7 +96,7 @@ pub fn decode(direction: Direction, bytes: &[u8]) -> Decoded
         return refused(KIND_UNKNOWN);
     }
     let keys = key_map(map, bytes);
-    if keys_zero(map, keys, bytes.len()) {
+    if keys_zero(map, keys, bytes) {
         return refused(KEY_MAP_EMPTY);
     }
     if bytes.len() != Places::of(map, keys).end {

@@ -2,6 +2,7 @@
 
 use std::ops::BitXorAssign;
 
+use reference::numbers::{CUT_OR_TOO_LONG, KEY_MAP_EMPTY, READERS_FORBID, WRITERS_FORBID};
 use reference::Answer;
 
 use crate::case::play;
@@ -32,6 +33,15 @@ fn honest(buffers: &mut Buffers) -> Answer {
 /// A monitor that gives another answer than it should.
 fn answering(change: fn(Answer) -> Answer) -> Monitor {
     Box::new(move |buffers| change(honest(buffers)))
+}
+
+/// One number answered as another.
+fn confused(answer: Answer, right: u32, wrong: u32) -> Answer {
+    let number = match answer.number == right {
+        true => wrong,
+        false => answer.number,
+    };
+    Answer { number, ..answer }
 }
 
 type Spoil = fn(Answer, &mut Buffers);
@@ -72,11 +82,10 @@ fn honest_monitors_are_passed() {
 
 #[test]
 fn a_wrong_answer_is_found() {
-    let number = answering(|answer| Answer {
-        number: answer.number.min(8),
-        ..answer
-    });
-    assert_found(number, "answer's number");
+    let writers_as_readers = answering(|answer| confused(answer, WRITERS_FORBID, READERS_FORBID));
+    assert_found(writers_as_readers, "answer's number");
+    let empty_as_cut = answering(|answer| confused(answer, KEY_MAP_EMPTY, CUT_OR_TOO_LONG));
+    assert_found(empty_as_cut, "answer's number");
     let bytes = answering(|answer| Answer {
         bytes: answer.bytes.min(100),
         ..answer

@@ -288,7 +288,7 @@ struct Record<'a> {
     values: &'a [u8],
 }
 
-/// Numbers 10, 12 and 11: none where one of them applies.
+/// Numbers 10, 12 and 11: `None` where one of them applies.
 #[inline(always)]
 fn read_record(bytes: &[u8]) -> Option<Record<'_>> {
     let (&[map, url, connection], mut rest) = bytes.split_first_chunk()?;

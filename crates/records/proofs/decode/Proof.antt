@@ -1,12 +1,12 @@
 -- `decode` meets its contract: at each return the tests that led there say what decoding answers.
-use Rattle.prelude.proofs.Kit.{arith, true, false, _≡_, sym, _∙_, refl, ap, needs, not-false, not-true, now, length}
+use Rattle.prelude.proofs.Kit.{arith, false, _≡_, sym, _∙_, refl, ap, needs, not-false, not-true, now, length}
 use Rattle.prelude.specs.Refusals.{accepted}
 use Rattle.records.specs.declared.Record.{Record}
 use Rattle.records.specs.declared.places.Places.{Places}
 use Rattle.records.specs.Layout.{size}
 use Rattle.records.specs.Codec.{mapOf, keysOf, mapUnknown, keysZero}
 use Rattle.records.specs.Places.{placesOf}
-use Rattle.records.proofs.Decoding.{end-is-size, refused-by, map-empty, map-unknown, map-known, keys-zero, length-other, decoded-accepted, accepts}
+use Rattle.records.proofs.Decoding.{end-is-size, refused-by, map-empty, map-unknown, map-known, length-other, decoded-accepted, accepts}
 use Rattle.records.proofs.decode.Statement.{statement}
 use Rattle.records.proofs.decode.Tie as tie
 
@@ -31,9 +31,7 @@ known-map m =
     map-known (a .direction) (now (a .bytes)) (not-empty m .if1 .left) (sym (is .ensures) ∙ not-false (is .result) (m .if2 .left))
 
 keyed : (m : tie.Else3) → keysZero (now (start (not-empty (known m)) .args .bytes)) ≡ false
-keyed m =
-    let a = start (not-empty (known m)) .args in
-    keys-zero (a .direction) (now (a .bytes)) false (sym (rw (m .before .before .key-map .ensures) at (m .before .keys-zero .ensures)) ∙ m .if3 .left)
+keyed m = sym (m .before .keys-zero .ensures) ∙ m .if3 .left
 
 -- the place after the last field, as the definitions have it
 ends : (m : tie.After-of)
@@ -67,8 +65,7 @@ returns-3 : tie.Need-returns-3
 returns-3 c =
     let m = c .before .before .before .before in
     let a = start (not-empty m) .args in
-    let zero = sym (rw (c .before .before .before .key-map .ensures) at (c .before .before .keys-zero .ensures)) ∙ c .before .if3 .taken in
-    c .refused3 .ensures ∙ refused-by (a .direction) (now (a .bytes)) 1 (known-map m, tt) (keys-zero (a .direction) (now (a .bytes)) true zero) refl
+    c .refused3 .ensures ∙ refused-by (a .direction) (now (a .bytes)) 1 (known-map m, tt) (sym (c .before .before .keys-zero .ensures) ∙ c .before .if3 .taken) refl
 
 returns-4 : tie.Need-returns-4
 returns-4 c =

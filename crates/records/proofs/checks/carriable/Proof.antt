@@ -10,11 +10,11 @@ returns c = rw (← c .before .is-map .ensures, not-true (c .before .is-map .res
 
 returns-2 : tie.Need-returns-2
 unfolding carriable
-returns-2 c = rw (← c .before .before .before .is-map .ensures, not-false (c .before .before .before .is-map .result) (c .before .before .if1 .left), ← c .before .keys-missing .ensures, c .if2 .taken)
+returns-2 c = rw (← c .before .before .before .is-map .ensures, not-false (c .before .before .before .is-map .result) (c .before .before .if1 .left), ← c .before .no-key-set .ensures, c .if2 .taken)
 
 returns-3 : tie.Need-returns-3
 unfolding carriable
-returns-3 c = rw (← c .before .before .before .before .is-map .ensures, not-false (c .before .before .before .before .is-map .result) (c .before .before .before .if1 .left), ← c .before .before .keys-missing .ensures, c .before .if2 .left) (c .fields-fit .ensures)
+returns-3 c = rw (← c .before .before .before .before .is-map .ensures, not-false (c .before .before .before .before .is-map .result) (c .before .before .before .if1 .left), ← c .before .before .no-key-set .ensures, c .before .if2 .left) (c .fields-fit .ensures)
 
 pub carriable-spec : {M : Type 1} → statement M
 carriable-spec =
