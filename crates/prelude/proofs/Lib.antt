@@ -2,3 +2,4 @@ pub mod Kit
 pub mod Choices
 pub mod Refusals
 pub mod Bits
+pub mod Lists

@@ -4,6 +4,7 @@ use Rattle.prelude.proofs.Kit.{_&&_, and-assoc, and-true, List, _∷_, [], _++_
 use Rattle.prelude.proofs.Kit.{bitOr, eqb, ltb, length, take, drop, getD, set, length-set, sets, take-all, drop-drop, drop-cons}
 use lib.Seq.{take-suc-set, length-sets}
 use Rattle.prelude.proofs.Bits.{or-zero}
+use Rattle.prelude.proofs.Lists.{sets-append}
 use Rattle.records.specs.Bytes.{bit, number, digits}
 use Rattle.records.specs.Layout.{keyNumbers, widths, sum, join, split, fitWidths}
 use Rattle.records.specs.Places.{cookieWidths}
@@ -61,11 +62,6 @@ module _ (bytes : List ℕ) (at keys : ℕ) where
   pub reading-ends : (values : List ℕ) (next : ℕ) → Reading bytes at keys values next 8 → values ≡ split (cookieWidths keys) (drop at bytes)
   unfolding split cookieWidths widths
   reading-ends values next r = sym (append-nil (take 8 values) ∙ take-all 8 values (omega (arith, r .eight))) ∙ r .remains
-
--- stores of a joined list are the stores of its parts, one after the other
-pub sets-append : (a b l : List ℕ) (i : ℕ) → sets l i (a ++ b) ≡ sets (sets l i a) (i + length a) b
-sets-append [] b l i = ap (λ (k : ℕ). sets l k b) (sym (add-zero i))
-sets-append (x ∷ a) b l i = sets-append a b (set l i x) (suc i) ∙ ap (λ (k : ℕ). sets (sets (set l i x) (suc i) a) k b) (omega arith)
 
 -- writing: what is written from here on makes the whole
 pub record Writing (before : List ℕ) (at keys : ℕ) (values out : List ℕ) (next key : ℕ) : Type 0 where

@@ -2,6 +2,7 @@
 use Rattle.prelude.proofs.Kit.{ℕ, _≤_, _+_, _*_, pred, zero-add, one-mul, arith, List, _∷_, [], _++_, append-assoc, append-nil, _≡_, sym}
 use Rattle.prelude.proofs.Kit.{_∙_, refl, ap, subst, length, take, sets}
 use native.Mathlib.Nat.{add-assoc}
+use Rattle.prelude.proofs.Lists.{sets-append}
 use Rattle.records.specs.declared.Record.{Record}
 use Rattle.records.specs.Bytes.{bit, digits}
 use Rattle.records.specs.Layout.{widths, start, sum, join, values, size}
@@ -9,7 +10,6 @@ use Rattle.records.specs.Codec.{bytesOf}
 use Rattle.records.specs.Places.{frontWidths, cookieWidths, backWidths}
 use Rattle.records.proofs.Digits.{length-digits}
 use Rattle.records.proofs.Joining.{length-join, spelt, spelt-is, with-cookies}
-use Rattle.records.proofs.Cookies.{sets-append}
 
 pub front-widths : (m : ℕ) → frontWidths m ≡ bit m 0 ∷ bit m 1 ∷ bit m 2 ∷ []
 unfolding frontWidths widths

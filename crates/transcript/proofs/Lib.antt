@@ -1,5 +1,3 @@
-pub mod Decimals
-pub mod Writing
 pub mod Requests
 pub mod Printing
 pub mod Words

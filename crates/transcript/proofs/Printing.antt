@@ -5,10 +5,10 @@ use lib.Seq.{length-sets}
 use Rattle.prelude.specs.Refusals.{accepted}
 use Rattle.records.specs.declared.Decoded.{Decoded}
 use Rattle.records.specs.Codec.{firstRecord}
-use Rattle.records.proofs.Cookies.{sets-append}
-use Rattle.transcript.specs.Text.{space, newline, decimal, hex, Wrote}
+use Rattle.prelude.proofs.Lists.{sets-append}
+use Rattle.text.specs.Text.{space, newline, decimal, hex, Wrote}
 use Rattle.transcript.specs.Lines.{requestLine, sentLines}
-use Rattle.transcript.proofs.Decimals.{byte-room}
+use Rattle.text.proofs.Decimals.{byte-room}
 use Rattle.transcript.proofs.Requests.{number, firstRequest, lineOf, request-long, first-bytes, first-within, lines-more}
 
 -- what the loop reads: the bytes from a place on, and as many of those as the first record has

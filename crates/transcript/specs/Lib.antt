@@ -1,3 +1,2 @@
-pub mod Text
 pub mod Input
 pub mod Lines

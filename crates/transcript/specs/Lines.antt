@@ -8,7 +8,7 @@ use Rattle.transcript.specs.declared.input.InputSize.{InputSize}
 use Rattle.transcript.specs.declared.input.InputSize.the-variants.{Short, Long, Fits}
 use Rattle.transcript.specs.declared.input.Ending.{Ending}
 use Rattle.transcript.specs.declared.input.Ending.the-variants.{End, Cut}
-use Rattle.transcript.specs.Text.{decimal, hex, line}
+use Rattle.text.specs.Text.{decimal, hex, line}
 
 -- `short`, `long`; nothing of an input that fits
 abbrev pub sizeLine : InputSize → List ℕ

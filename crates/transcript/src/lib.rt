@@ -2,7 +2,6 @@
 mod counts;
 mod input;
 mod lines;
-mod text;
 
 pub use counts::Counts;
 pub use counts::counted;

@@ -2,15 +2,15 @@
 ghost use Prim.Native.Nat.{_+_, _*_, _≤_};
 ghost use mathlib.Core.List.{[], _∷_, _++_};
 ghost use lib.ListN.{length};
-ghost use Rattle.transcript.specs.Text.{space, Wrote, AtFront};
+ghost use Rattle.text.specs.Text.{space, Wrote, AtFront};
 ghost use Rattle.transcript.specs.Lines.{sizeLine, recordLine, requestLine, sentLines, recordLines, endingWord, lastLine};
 use super::counts::Counts;
 use super::input::Ending;
 use super::input::InputSize;
-use super::text::write_bytes;
-use super::text::write_hex;
-use super::text::write_number;
 use records::Direction;
+use text::write_bytes;
+use text::write_hex;
+use text::write_number;
 
 // What is printed of an input that walk does not take; of any other, nothing.
 pub fn write_size_line(text: &mut [u8], size: InputSize) -> usize

@@ -1,7 +1,7 @@
 -- `walk::print_answer` is safe: what is sent is within the output, there is room for its lines, and what is printed is within the text.
 use Rattle.prelude.proofs.Kit.{arith, sym, needs, now, take, length-take-le}
 use Rattle.transcript.specs.Lines.{recordLines}
-use Rattle.transcript.proofs.Writing.{front-within}
+use Rattle.text.proofs.Writing.{front-within}
 use Rattle.walk.proofs.print_answer.Statement.{statement}
 use Rattle.walk.proofs.print_answer.Tie as tie
 

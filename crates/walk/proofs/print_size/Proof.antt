@@ -1,7 +1,7 @@
 -- `walk::print_size` is safe: what is printed is within the text.
 use Rattle.prelude.proofs.Kit.{sym, needs, length-take-le}
 use Rattle.transcript.specs.Lines.{sizeLine}
-use Rattle.transcript.proofs.Writing.{front-within}
+use Rattle.text.proofs.Writing.{front-within}
 use Rattle.walk.proofs.print_size.Statement.{statement}
 use Rattle.walk.proofs.print_size.Tie as tie
 

@@ -2,10 +2,10 @@
 use Rattle.prelude.proofs.Kit.{arith, _∷_, [], _++_, _≡_, refl, needs, length}
 use Rattle.transcript.specs.declared.input.Ending.{Ending}
 use Rattle.transcript.specs.declared.input.Ending.the-variants.{End, Cut}
-use Rattle.transcript.specs.Text.{space}
+use Rattle.text.specs.Text.{space}
 use Rattle.transcript.specs.Lines.{endingWord}
-use Rattle.transcript.proofs.Decimals.{number-room}
-use Rattle.transcript.proofs.Writing.{wrote-then, at-front}
+use Rattle.text.proofs.Decimals.{number-room}
+use Rattle.text.proofs.Writing.{wrote-then, at-front}
 use Rattle.transcript.proofs.lines.write_last_line.Statement.{statement}
 use Rattle.transcript.proofs.lines.write_last_line.Tie as tie
 

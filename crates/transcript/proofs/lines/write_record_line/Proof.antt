@@ -1,7 +1,7 @@
 -- `lines::write_record_line` meets its contract: four numbers one after another, each with room for ten digits and the byte that ends it.
 use Rattle.prelude.proofs.Kit.{arith, needs}
-use Rattle.transcript.proofs.Decimals.{number-room}
-use Rattle.transcript.proofs.Writing.{wrote-then}
+use Rattle.text.proofs.Decimals.{number-room}
+use Rattle.text.proofs.Writing.{wrote-then}
 use Rattle.transcript.proofs.lines.write_record_line.Statement.{statement}
 use Rattle.transcript.proofs.lines.write_record_line.Tie as tie
 

@@ -1,9 +1,9 @@
 -- `lines::write_record_lines` meets its contract: the record's line, and the requests' lines after it.
 use Rattle.prelude.proofs.Kit.{ℕ, _≤_, arith, needs, length, length-append}
-use Rattle.transcript.specs.Text.{space, newline}
+use Rattle.text.specs.Text.{space, newline}
 use Rattle.transcript.specs.Lines.{recordLine, recordLines}
-use Rattle.transcript.proofs.Decimals.{number-room}
-use Rattle.transcript.proofs.Writing.{wrote-then, at-front}
+use Rattle.text.proofs.Decimals.{number-room}
+use Rattle.text.proofs.Writing.{wrote-then, at-front}
 use Rattle.transcript.proofs.lines.write_record_lines.Statement.{statement}
 use Rattle.transcript.proofs.lines.write_record_lines.Tie as tie
 

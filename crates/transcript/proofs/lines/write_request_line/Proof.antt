@@ -1,7 +1,7 @@
 -- `lines::write_request_line` meets its contract: its four words one after another, the numbers of at most three digits.
 use Rattle.prelude.proofs.Kit.{arith, needs}
-use Rattle.transcript.proofs.Decimals.{byte-room}
-use Rattle.transcript.proofs.Writing.{wrote-then}
+use Rattle.text.proofs.Decimals.{byte-room}
+use Rattle.text.proofs.Writing.{wrote-then}
 use Rattle.transcript.proofs.lines.write_request_line.Statement.{statement}
 use Rattle.transcript.proofs.lines.write_request_line.Tie as tie
 

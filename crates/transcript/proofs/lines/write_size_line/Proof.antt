@@ -1,6 +1,6 @@
 -- `lines::write_size_line` meets its contract: each word is written at the front.
 use Rattle.prelude.proofs.Kit.{needs}
-use Rattle.transcript.proofs.Writing.{at-front}
+use Rattle.text.proofs.Writing.{at-front}
 use Rattle.transcript.proofs.lines.write_size_line.Statement.{statement}
 use Rattle.transcript.proofs.lines.write_size_line.Tie as tie
 

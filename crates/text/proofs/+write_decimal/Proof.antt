@@ -1,15 +1,15 @@
--- `text::write_decimal` meets its contract: the digits of a tenth, and one more. The measure is the number.
+-- `write_decimal` meets its contract: the digits of a tenth, and one more. The measure is the number.
 use Rattle.prelude.proofs.Kit.{ℕ, _<_, _+_, _/_, arith, _≡_, refl, ap, needs, length}
 use borrow.Fn.Kinds.{In}
 use borrow.Fn.PlainCycle.{Measures, is, falls, and}
-use Rattle.transcript.specs.Text.{decimal}
-use Rattle.transcript.proofs.Decimals.{decimal-one, decimal-more, decimal-longer}
-use Rattle.transcript.proofs.Writing.{wrote-byte}
-use Rattle.transcript.proofs.text.write_decimal.Reads as write-decimal
-use Rattle.transcript.proofs.text.write_decimal.Kinds as write-decimal-kinds
-use Rattle.transcript.proofs.text.+write_decimal.Lts-write_decimal as lts
-use Rattle.transcript.proofs.text.+write_decimal.{statement}
-use Rattle.transcript.proofs.text.+write_decimal.Tie.{close}
+use Rattle.text.specs.Text.{decimal}
+use Rattle.text.proofs.Decimals.{decimal-one, decimal-more, decimal-longer}
+use Rattle.text.proofs.Writing.{wrote-byte}
+use Rattle.text.proofs.write_decimal.Reads as write-decimal
+use Rattle.text.proofs.write_decimal.Kinds as write-decimal-kinds
+use Rattle.text.proofs.+write_decimal.Lts-write_decimal as lts
+use Rattle.text.proofs.+write_decimal.{statement}
+use Rattle.text.proofs.+write_decimal.Tie.{close}
 
 abbrev μ : Measures 1 write-decimal-kinds.ps ℕ
 μ κs a = a .1 .1 .0

@@ -1,8 +1,8 @@
--- `text::write_bytes` meets its contract: what is written from an index on makes the whole.
+-- `write_bytes` meets its contract: what is written from an index on makes the whole.
 use Rattle.prelude.proofs.Kit.{ℕ, _≤_, _+_, _-_, add-zero, arith, _≡_, sym, _∙_, refl, ap, needs, now, length, drop, length-set, sets}
-use Rattle.transcript.proofs.Writing.{copy-goes-on, copy-ends}
-use Rattle.transcript.proofs.text.write_bytes.Statement.{statement}
-use Rattle.transcript.proofs.text.write_bytes.Tie as tie
+use Rattle.text.proofs.Writing.{copy-goes-on, copy-ends}
+use Rattle.text.proofs.write_bytes.Statement.{statement}
+use Rattle.text.proofs.write_bytes.Tie as tie
 
 abbrev Inv-loop : tie.InvT-loop
 Inv-loop text₀ at bytes i₀ i-end text i =

@@ -1,8 +1,8 @@
--- `text::write_hex` meets its contract.
+-- `write_hex` meets its contract.
 use Rattle.prelude.proofs.Kit.{add-one, arith, refl, needs, length-set}
 use native.Mathlib.Numerals.{add-two}
-use Rattle.transcript.proofs.text.write_hex.Statement.{statement}
-use Rattle.transcript.proofs.text.write_hex.Tie as tie
+use Rattle.text.proofs.write_hex.Statement.{statement}
+use Rattle.text.proofs.write_hex.Tie as tie
 
 slice-write-text-2 : tie.Need-slice-write-text-2
 slice-write-text-2 c = simp length-set (omega arith)

@@ -2,7 +2,7 @@
 use Rattle.prelude.proofs.Kit.{ℕ, _≤_, _<_, _+_, suc, _^_, zero, _%_, _/_, zero-lt-suc, le-of-suc-le-suc, not-suc-le-zero, arith, true}
 use Rattle.prelude.proofs.Kit.{Bool, false, cond, List, _∷_, [], _++_, _≡_, sym, _∙_, ap, le-ltb, lt-ltb, ltb, length, length-append}
 use native.Mathlib.Nat.{pow-suc, div-lt-iff-lt-mul}
-use Rattle.transcript.specs.Text.{digit, decimalWithin, decimal}
+use Rattle.text.specs.Text.{digit, decimalWithin, decimal}
 
 -- more digits than are enough change nothing
 stable : (few most n : ℕ) → n < 10 ^ suc few → few ≤ most → decimalWithin (suc most) n ≡ decimalWithin (suc few) n

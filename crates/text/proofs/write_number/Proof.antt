@@ -1,9 +1,9 @@
--- `text::write_number` meets its contract: the digits, and one byte more.
+-- `write_number` meets its contract: the digits, and one byte more.
 use Rattle.prelude.proofs.Kit.{_<_, arith, _∷_, [], needs, length, length-append}
-use Rattle.transcript.specs.Text.{decimal}
-use Rattle.transcript.proofs.Writing.{wrote-byte}
-use Rattle.transcript.proofs.text.write_number.Statement.{statement}
-use Rattle.transcript.proofs.text.write_number.Tie as tie
+use Rattle.text.specs.Text.{decimal}
+use Rattle.text.proofs.Writing.{wrote-byte}
+use Rattle.text.proofs.write_number.Statement.{statement}
+use Rattle.text.proofs.write_number.Tie as tie
 
 -- there is room for the byte that ends the number
 room : (c : tie.After-slice-known2) → c .before .before .write-decimal .result < length (c .before .before .write-decimal .last .0)

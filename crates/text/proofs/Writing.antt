@@ -2,8 +2,8 @@
 use Rattle.prelude.proofs.Kit.{ℕ, _≤_, _<_, _+_, suc, zero-add, add-one, arith, List, _∷_, [], _++_, _≡_, _∙_, refl, ap, length, drop, getD}
 use Rattle.prelude.proofs.Kit.{set, length-append, sets, drop-cons}
 use lib.Seq.{drop-length, length-sets, sets-eq}
-use Rattle.records.proofs.Cookies.{sets-append}
-use Rattle.transcript.specs.Text.{AtFront, Wrote}
+use Rattle.prelude.proofs.Lists.{sets-append}
+use Rattle.text.specs.Text.{AtFront, Wrote}
 
 pub wrote-then : {l m n x y : List ℕ} {i j k : ℕ} → Wrote l i x m j → Wrote m j y n k → Wrote l i (x ++ y) n k
 wrote-then {l} {m} {n} {x} {y} {i} f g = record {

@@ -1,7 +1,7 @@
--- `text::hex_digit` meets its contract.
+-- `hex_digit` meets its contract.
 use Rattle.prelude.proofs.Kit.{needs, le-ltb, lt-ltb}
-use Rattle.transcript.proofs.text.hex_digit.Statement.{statement}
-use Rattle.transcript.proofs.text.hex_digit.Tie as tie
+use Rattle.text.proofs.hex_digit.Statement.{statement}
+use Rattle.text.proofs.hex_digit.Tie as tie
 
 returns : tie.Need-returns
 returns c = simp (lt-ltb _ _ (c .if1 .taken))
