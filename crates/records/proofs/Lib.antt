@@ -12,3 +12,5 @@ pub mod Encoding
 pub mod RoundTrips
 pub mod Carriable
 pub mod Runs
+pub mod Headings
+pub mod ReadRuns

@@ -9,6 +9,7 @@ use Rattle.records.specs.declared.Direction.{Direction}
 use Rattle.records.specs.declared.Record.{Record}
 use Rattle.records.specs.declared.Decoded.{Decoded}
 use Rattle.records.specs.declared.Encoded.{Encoded}
+use Rattle.records.specs.declared.First.{First}
 use Rattle.records.specs.Bytes.{bit}
 use Rattle.records.specs.Layout.{cookiesBit, maps, widths, keyMapAt, size, longest, join, split, fitWidths, values, fromValues}
 
@@ -133,6 +134,16 @@ pub record Run : Type 0 where
 -- the first record's bytes: as many as its maps call for
 unfoldable pub firstRecord : List ℕ → List ℕ
 firstRecord bytes = take (size (mapOf bytes) (keysOf bytes)) bytes
+
+-- an answer of decoding with the length of the record
+abbrev pub first : Decoded → ℕ → First
+first read n = record { number = read .number; fields = read .fields; length = n }
+
+-- the first record and how many bytes it has; 0 where it is refused
+unfoldable pub decodedFirst : Direction → List ℕ → First
+decodedFirst d bytes =
+    let read = decoded d (firstRecord bytes) in
+    first read (cond (eqb (read .number) accepted) (length (firstRecord bytes)) 0)
 
 unfoldable pub readAtMost : ℕ → Direction → List ℕ → Run
 readAtMost zero d bytes = record { records = []; left = bytes }

@@ -27,10 +27,7 @@ pub fn is_map(direction: Direction, map: u8) -> bool
             _ => false,
         },
         // document request and script request, each without cookies and with them
-        Direction::Request => match map {
-            0x03 | 0x07 | 0x0b | 0x0f => true,
-            _ => false,
-        },
+        Direction::Request => (map == 0x03) | (map == 0x07) | (map == 0x0b) | (map == 0x0f),
     }
 }
 

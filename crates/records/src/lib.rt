@@ -1,24 +1,21 @@
 // Records: the wire format of what the monitor is fed and what it sends (document 01, "Records").
 ghost use mathlib.Core.Path.{_≡_};
-ghost use Rattle.records.specs.Codec.{refused, decoded, written, encoded, firstRecord};
-ghost use lib.ListN.{length};
+ghost use Rattle.records.specs.Codec.{refused, decoded, first, decodedFirst, written, encoded};
 
 mod bytes;
 mod checks;
 mod fields;
+mod heading;
 pub mod map_bytes;
 mod places;
 
 pub use checks::LONGEST_INPUT;
 pub use checks::LONGEST_REQUEST;
 use checks::carriable;
-use checks::is_map;
-use checks::keys_zero;
 use checks::longest;
-use fields::key_map;
 use fields::read;
 use fields::write;
-use places::Places;
+use heading::read_heading;
 
 // The numbers of what is accepted and of what encoding refuses.
 pub const ACCEPTED: u32 = 0;
@@ -88,23 +85,54 @@ fn refused(number: u32) -> Decoded
 pub fn decode(direction: Direction, bytes: &[u8]) -> Decoded
     ensures { λ r. ⌜ r ≡ decoded direction (now (bytes .entry)) ⌝ }
 {
-    if bytes.len() == 0 {
-        return refused(KIND_UNKNOWN); // there is no map
+    let heading = read_heading(direction, bytes);
+    if heading.number != ACCEPTED {
+        return refused(heading.number);
     }
-    let map = bytes[0];
-    if !is_map(direction, map) {
-        return refused(KIND_UNKNOWN);
-    }
-    let keys = key_map(map, bytes);
-    if keys_zero(map, keys, bytes) {
-        return refused(KEY_MAP_EMPTY);
-    }
-    if bytes.len() != Places::of(map, keys).end {
+    if bytes.len() != heading.length {
         return refused(CUT_OR_TOO_LONG);
     }
     Decoded {
         number: ACCEPTED,
-        fields: read(map, keys, bytes),
+        fields: read(heading.map, heading.keys, bytes),
+    }
+}
+
+// The first of some records one after another, as `decode` reads it, and how many bytes it has; 0 where it is refused.
+pub struct First {
+    pub number: u32,
+    pub fields: Record,
+    pub length: usize,
+}
+
+fn refused_first(number: u32) -> First
+    ensures { λ r. ⌜ r ≡ first (refused number) 0 ⌝ }
+{
+    let none = refused(number);
+    let fields = none.fields;
+    First {
+        number,
+        fields,
+        length: 0,
+    }
+}
+
+// Reads the first of some records one after another: as many bytes as its maps call for are the record.
+pub fn decode_first(direction: Direction, bytes: &[u8]) -> First
+    ensures { λ r. ⌜ r ≡ decodedFirst direction (now (bytes .entry)) ⌝ }
+{
+    let heading = read_heading(direction, bytes);
+    if heading.number != ACCEPTED {
+        return refused_first(heading.number);
+    }
+    let length = heading.length;
+    if bytes.len() < length {
+        return refused_first(CUT_OR_TOO_LONG);
+    }
+    First {
+        number: ACCEPTED,
+        fields: read(heading.map, heading.keys, &bytes[..length]),
+        length,
     }
 }
 
@@ -130,19 +158,4 @@ pub fn encode(direction: Direction, fields: Record, out: &mut [u8]) -> Encoded
         number: ACCEPTED,
         length,
     }
-}
-
-// How many bytes the first of some records one after another has: as many as its maps call for, or as there are.
-pub fn first_length(bytes: &[u8]) -> usize
-    ensures { λ r. ⌜ r ≡ length (firstRecord (now (bytes .entry))) ⌝ }
-{
-    if bytes.len() == 0 {
-        return 0;
-    }
-    let map = bytes[0];
-    let size = Places::of(map, key_map(map, bytes)).end;
-    if bytes.len() < size {
-        return bytes.len();
-    }
-    size
 }

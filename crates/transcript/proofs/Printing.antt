@@ -3,22 +3,14 @@ use Rattle.prelude.proofs.Kit.{ℕ, _≤_, _<_, _+_, _-_, _*_, arith, List, _�
 use Rattle.prelude.proofs.Kit.{length-append, length-drop, sets, take-all, drop-drop}
 use lib.Seq.{length-sets}
 use Rattle.prelude.specs.Refusals.{accepted}
-use Rattle.records.specs.declared.Decoded.{Decoded}
-use Rattle.records.specs.Codec.{firstRecord}
+use Rattle.records.specs.declared.Direction.the-variants.{Request}
+use Rattle.records.specs.declared.First.{First}
+use Rattle.records.proofs.ReadRuns.{first-bytes}
 use Rattle.prelude.proofs.Lists.{sets-append}
 use Rattle.text.specs.Text.{space, newline, decimal, hex, Wrote}
 use Rattle.transcript.specs.Lines.{requestLine, sentLines}
 use Rattle.text.proofs.Decimals.{byte-room}
-use Rattle.transcript.proofs.Requests.{number, firstRequest, lineOf, request-long, first-bytes, first-within, lines-more}
-
--- what the loop reads: the bytes from a place on, and as many of those as the first record has
-pub rest-is : (sent : List ℕ) (from : ℕ) → take (length sent - from) (drop from sent) ≡ drop from sent
-rest-is sent from = take-all (length sent - from) (drop from sent) (omega (arith, length-drop from sent))
-
-pub first-taken : (sent : List ℕ) (from n : ℕ) → n ≡ length (firstRecord (drop from sent)) → take (from + n - from) (drop from sent) ≡ firstRecord (drop from sent)
-first-taken sent from n e =
-    let count : from + n - from ≡ length (firstRecord (drop from sent)) = omega arith in
-    rw count (first-bytes (drop from sent))
+use Rattle.transcript.proofs.Requests.{firstRequest, lineOf, first-three, lines-more}
 
 line-short : (url connection keys : ℕ) → url < 256 → connection < 256 → length (requestLine url connection keys) ≤ 13
 line-short url connection keys u c =
@@ -52,26 +44,27 @@ module _ {before : List ℕ} {start : ℕ} {sent : List ℕ} where
     }
 
     -- the first of the bytes that are left is an accepted request
-    module _ {d : Decoded} (read : d ≡ firstRequest (drop from sent)) (ok : d .number ≡ accepted) where
+    module _ {d : First} (read : d ≡ firstRequest (drop from sent)) (ok : d .number ≡ accepted) where
       first-ok : firstRequest (drop from sent) .number ≡ accepted
-      first-ok = sym (ap number read) ∙ ok
+      first-ok = sym (ap (λ (r : First). r .number) read) ∙ ok
 
-      pub request-bytes : (3 ≤ length (firstRecord (drop from sent))) × (from + length (firstRecord (drop from sent)) ≤ length sent)
+      pub request-bytes : (3 ≤ d .length) × (from + d .length ≤ length sent)
       request-bytes =
-          let long = request-long (firstRecord (drop from sent)) first-ok in
-          (long, omega (arith, long, first-within (drop from sent), length-drop from sent))
+          let size = ap (λ (r : First). r .length) read in
+          let long = first-three (drop from sent) first-ok in
+          (omega (arith, size, long), omega (arith, size, long, first-bytes Request (drop from sent) first-ok .1, length-drop from sent))
 
       -- it has at least 3 bytes, so there is room for the 13 of its line
       pub request-room : at + 13 ≤ length text
       request-room = omega (arith, p .room, p .long, request-bytes .0, request-bytes .1)
 
-      pub printing-goes-on : {after : List ℕ} {next to : ℕ} → to ≡ from + length (firstRecord (drop from sent)) → d .fields .url < 256 → d .fields .connection < 256
-          → Wrote text at (lineOf d) after next → Printing before start sent after next to
-      printing-goes-on {to = to} e u c w =
+      pub printing-goes-on : {after : List ℕ} {next : ℕ} → d .fields .url < 256 → d .fields .connection < 256
+          → Wrote text at (lineOf d) after next → Printing before start sent after next (from + d .length)
+      printing-goes-on u c w =
           let rest = drop from sent in
           let line = lineOf d in
-          let left : drop to sent ≡ drop (length (firstRecord rest)) rest = ap (λ (i : ℕ). drop i sent) e ∙ sym (drop-drop (length (firstRecord rest)) from sent) in
-          let more : sentLines rest ≡ line ++ sentLines (drop to sent) = rw (left, read) (lines-more rest first-ok) in
+          let to = from + d .length in
+          let more : sentLines rest ≡ line ++ sentLines (drop to sent) = rw (← drop-drop (d .length) from sent, read) (lines-more rest first-ok) in
           record {
             below = omega (arith, request-bytes .1);
             long = ap length (w .written) ∙ length-sets text at line ∙ p .long;

@@ -55,14 +55,13 @@ fn write_request_lines(text: &mut [u8], start: usize, sent: &[u8]) -> usize
     let mut at = start;
     let mut from = 0;
     while from < sent.len() {
-        let end = from + records::first_length(&sent[from..]);
-        let request = records::decode(Direction::Request, &sent[from..end]);
+        let request = records::decode_first(Direction::Request, &sent[from..]);
         if request.number != records::ACCEPTED {
             return at;
         }
         let fields = request.fields;
         at = write_request_line(text, at, fields.url, fields.connection, fields.keys);
-        from = end;
+        from = from + request.length;
     }
     at
 }

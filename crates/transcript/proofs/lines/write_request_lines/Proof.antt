@@ -1,10 +1,10 @@
 -- `lines::write_request_lines` meets its contract: the lines that are left to write make the whole.
 use Rattle.prelude.proofs.Kit.{ℕ, _≤_, _+_, _-_, arith, List, _≡_, _∙_, ap, needs, now, length, drop, length-drop, drop-of-length-le}
-use Rattle.records.specs.declared.Direction.the-variants.{Request}
-use Rattle.records.specs.Codec.{decoded, firstRecord}
+use Rattle.records.specs.declared.First.{First}
+use Rattle.records.proofs.ReadRuns.{rest-is}
 use Rattle.transcript.specs.Lines.{sentLines}
-use Rattle.transcript.proofs.Requests.{number, firstRequest, first-within, lines-end, lines-none}
-use Rattle.transcript.proofs.Printing.{rest-is, first-taken, Printing, printing-begins, request-bytes, request-room, printing-goes-on, printing-ends}
+use Rattle.transcript.proofs.Requests.{firstRequest, lines-end, lines-none}
+use Rattle.transcript.proofs.Printing.{Printing, printing-begins, request-bytes, request-room, printing-goes-on, printing-ends}
 use Rattle.transcript.proofs.lines.write_request_lines.Statement.{statement}
 use Rattle.transcript.proofs.lines.write_request_lines.Tie as tie
 
@@ -17,58 +17,49 @@ abbrev μ-loop : tie.MeasureT-loop
 loop-holds : tie.Need-loop-holds Inv-loop μ-loop
 loop-holds c = printing-begins (c .before .before .pre)
 
-abbrev start : tie.After-first-length Inv-loop μ-loop → tie.At-loop Inv-loop μ-loop
+abbrev start : tie.After-decode-first Inv-loop μ-loop → tie.At-loop Inv-loop μ-loop
 start m = m .before .before .before
 
-abbrev measured : tie.Else1 Inv-loop μ-loop → tie.After-first-length Inv-loop μ-loop
-measured m = m .before .before .before .before
-
--- the bytes that are left, the length of the first record among them, and that record read
+-- the bytes that are left, and the first request among them
 abbrev bytes : tie.At-loop Inv-loop μ-loop → List ℕ
 bytes l = now (l .before .before .before .args .sent)
 
 abbrev left : tie.At-loop Inv-loop μ-loop → List ℕ
 left l = drop (l .loop .from) (bytes l)
 
-sized : (m : tie.After-first-length Inv-loop μ-loop) → m .first-length .result ≡ length (firstRecord (left (start m)))
-sized m = m .first-length .ensures ∙ ap (λ (bs : List ℕ). length (firstRecord bs)) (rest-is (bytes (start m)) (start m .loop .from))
-
-within : (m : tie.After-first-length Inv-loop μ-loop) → start m .loop .from + m .first-length .result ≤ length (bytes (start m))
-within m = let l = start m in omega (arith, sized m, first-within (left l), length-drop (l .loop .from) (bytes l), m .before .before .loop-test .taken)
-
-read : (m : tie.After-decode Inv-loop μ-loop) → m .decode .result ≡ firstRequest (left (start (m .before .before)))
-read m =
-    let f = m .before .before in
-    m .decode .ensures ∙ ap (decoded Request) (first-taken (bytes (start f)) (start f .loop .from) (f .first-length .result) (sized f))
-
-add-end : tie.Need-add-end Inv-loop μ-loop
-add-end c = omega (arith, within c)
-
-part-decode-end : tie.Need-part-decode-end Inv-loop μ-loop
-part-decode-end c = omega (arith, within c)
+read : (m : tie.After-decode-first Inv-loop μ-loop) → m .decode-first .result ≡ firstRequest (left (start m))
+read m = m .decode-first .ensures ∙ ap firstRequest (rest-is (bytes (start m)) (start m .loop .from))
 
 returns : tie.Need-returns Inv-loop μ-loop
 returns c =
     let m = c .before .before in
-    let l = start (m .before .before) in
-    printing-ends (l .loop .inv) (lines-none (left l) (λ ok. c .if1 .taken (ap number (read m) ∙ ok)))
+    let l = start m in
+    printing-ends (l .loop .inv) (lines-none (left l) (λ ok. c .if1 .taken (ap (λ (r : First). r .number) (read m) ∙ ok)))
 
 write-request-line-requires : tie.Need-write-request-line-requires Inv-loop μ-loop
 write-request-line-requires c κs =
     let m = c .before .before in
-    request-room (start (measured m) .loop .inv) (read (m .before .before)) (m .if1 .left)
+    request-room (start (m .before .before) .loop .inv) (read (m .before .before)) (m .if1 .left)
+
+-- the first request has at least 3 bytes and is within those that are left
+sized : (m : tie.Else1 Inv-loop μ-loop)
+    → let f = m .before .before in
+    (3 ≤ f .decode-first .result .length) × (start f .loop .from + f .decode-first .result .length ≤ length (bytes (start f)))
+sized m = request-bytes (start (m .before .before) .loop .inv) (read (m .before .before)) (m .if1 .left)
+
+abbrev printed : tie.After-struct-known2 Inv-loop μ-loop → tie.Else1 Inv-loop μ-loop
+printed c = c .before .before .before .before .before .before
+
+add-from : tie.Need-add-from Inv-loop μ-loop
+add-from c = omega (arith, sized (printed c) .1)
 
 loop-less : tie.Need-loop-less Inv-loop μ-loop
-loop-less c =
-    let m = c .before .before .before .before .before in
-    let size = request-bytes (start (measured m) .loop .inv) (read (m .before .before)) (m .if1 .left) in
-    omega (arith, size .0, size .1, sized (measured m))
+loop-less c = omega (arith, sized (printed c) .0, sized (printed c) .1)
 
 loop-again : tie.Need-loop-again Inv-loop μ-loop
 loop-again c =
-    let m = c .before .before .before .before .before in
-    printing-goes-on (start (measured m) .loop .inv) (read (m .before .before)) (m .if1 .left)
-    (ap (λ (n : ℕ). start (measured m) .loop .from + n) (sized (measured m))) (search needs) (search needs) (c .before .before .write-request-line .ensures)
+    let m = printed c in
+    printing-goes-on (start (m .before .before) .loop .inv) (read (m .before .before)) (m .if1 .left) (search needs) (search needs) (c .before .before .before .write-request-line .ensures)
 
 returns-2 : tie.Need-returns-2 Inv-loop μ-loop
 returns-2 c =
@@ -77,4 +68,4 @@ returns-2 c =
 
 pub write-request-lines-spec : {M : Type 1} → statement M
 write-request-lines-spec =
-    tie.close (tie.spec Inv-loop μ-loop loop-holds (λ c. search needs) (λ c. search needs) (λ c. search needs) (λ c κs. search needs) add-end (λ c. search needs) (λ c. search needs) part-decode-end (λ c κs. search needs) (λ c. search needs) returns write-request-line-requires loop-less loop-again (λ c. search needs) returns-2)
+    tie.close (tie.spec Inv-loop μ-loop loop-holds (λ c. search needs) (λ c. search needs) (λ c. search needs) (λ c κs. search needs) (λ c. search needs) returns write-request-line-requires add-from loop-less loop-again (λ c. search needs) returns-2)
