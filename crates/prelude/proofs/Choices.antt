@@ -1,6 +1,6 @@
 -- The laws of a choice, and of what a test keeps of a list.
 use Rattle.prelude.proofs.Kit.{true, _&&_, Bool, false, not, true≢false, false≢true, List, _∷_, [], _++_, map, _≡_, sym, _∙_, refl}
-use Rattle.prelude.proofs.Kit.{ap, T, and-i, and-r, and-l}
+use Rattle.prelude.proofs.Kit.{ap, T, and-i, and-r, and-l, _≤_, suc, arith, length}
 use mathlib.Core.Logic.{_⊎_, inl, inr}
 use Rattle.prelude.specs.Choice.{branch, keep}
 
@@ -95,6 +95,11 @@ module _ {A : Type 0} (test : A → Bool) where
   pub keep-none : (x : A) → T (not (test x)) → keep test (x ∷ []) ≡ []
   unfolding keep
   keep-none x t = branch-false (test x) (x ∷ []) [] t
+
+  pub keep-short : (xs : List A) → length (keep test xs) ≤ length xs
+  unfolding keep
+  keep-short [] = omega arith
+  keep-short (x ∷ xs) = let rest = keep-short xs in one (λ (l : List A). length l ≤ suc (length xs)) (test x) (λ _. omega (arith, rest)) (λ _. omega (arith, rest))
 
 pub map-append : {A B : Type 0} (f : A → B) (xs ys : List A) → map f (xs ++ ys) ≡ map f xs ++ map f ys
 map-append f [] ys = refl

@@ -1,2 +1,3 @@
 pub mod Choice
 pub mod Refusals
+pub mod Lists

@@ -4,21 +4,12 @@ use Rattle.prelude.proofs.Kit.{_&&_, and-assoc, and-true, List, _∷_, [], _++_
 use Rattle.prelude.proofs.Kit.{bitOr, eqb, ltb, length, take, drop, getD, set, length-set, sets, take-all, drop-drop, drop-cons}
 use lib.Seq.{take-suc-set, length-sets}
 use Rattle.prelude.proofs.Bits.{or-zero}
-use Rattle.prelude.proofs.Lists.{sets-append}
+use Rattle.prelude.specs.Lists.{numbers}
+use Rattle.prelude.proofs.Lists.{sets-append, map-at}
 use Rattle.records.specs.Bytes.{bit, number, digits}
 use Rattle.records.specs.Layout.{keyNumbers, widths, sum, join, split, fitWidths}
 use Rattle.records.specs.Places.{cookieWidths}
 use Rattle.records.proofs.Digits.{length-digits}
-
-numbers : ℕ → ℕ → List ℕ
-numbers from zero = []
-numbers from (suc n) = from ∷ numbers (suc from) n
-
-map-at : (f : ℕ → ℕ) (n from k : ℕ) → k < n → getD (map f (numbers from n)) k 0 ≡ f (from + k)
-unfolding numbers
-map-at f zero from k l = absurd (not-suc-le-zero l)
-map-at f (suc n) from zero l = ap f (sym (add-zero from))
-map-at f (suc n) from (suc k) l = map-at f n (suc from) k (le-of-suc-le-suc l) ∙ ap f (omega arith)
 
 -- the keys from one on: itself, and those after it
 pub keys-from : (key : ℕ) → key < 8 → drop key keyNumbers ≡ key ∷ drop (suc key) keyNumbers

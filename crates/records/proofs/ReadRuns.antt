@@ -1,6 +1,6 @@
 -- The run of records that bytes are, one by one: the first of them, and the run of what follows it.
 use Rattle.prelude.proofs.Kit.{ℕ, _≤_, _<_, _+_, _-_, suc, zero, arith, List, _∷_, [], _≡_, sym, _∙_, refl, ap, ne-eqb, eqb, length, take, drop}
-use Rattle.prelude.proofs.Kit.{length-append, length-drop, take-all, ℕ-discrete, true≢false}
+use Rattle.prelude.proofs.Kit.{length-append, length-drop, take-all, ℕ-discrete, true, false, Bool, cond, true≢false}
 use lib.ListN.{take-append-drop}
 use Rattle.prelude.specs.Refusals.{accepted}
 use Rattle.records.specs.declared.Direction.{Direction}
@@ -104,3 +104,20 @@ module _ (d : Direction) where
       read-more (length bytes) all ok
       ∙ ap (followed (decodedFirst d all .fields)) (read-stable (length bytes) (length rest) rest (omega (arith, shorter)) (omega arith))
       ∙ ap (λ (n : ℕ). followed (decodedFirst d all .fields) (readRun d (drop n all))) (sym (first-long all ok))
+
+  -- a run has no more records than bytes
+  read-few : (n : ℕ) (bytes : List ℕ) → length (readAtMost n d bytes .records) ≤ n
+  unfolding readAtMost
+  read-few zero bytes = omega arith
+  read-few (suc n) bytes = go (eqb (decoded d (firstRecord bytes) .number) accepted) (read-few n (drop (length (firstRecord bytes)) bytes))
+    where
+      rest : Run
+      rest = readAtMost n d (drop (length (firstRecord bytes)) bytes)
+
+      go : (b : Bool) → length (rest .records) ≤ n → length (cond b (followed (decoded d (firstRecord bytes) .fields) rest) (nothing bytes) .records) ≤ suc n
+      go true l = omega (arith, l)
+      go false l = omega arith
+
+  pub run-few : (bytes : List ℕ) → length (readRun d bytes .records) ≤ length bytes
+  unfolding readRun
+  run-few bytes = read-few (length bytes) bytes

@@ -16,6 +16,7 @@ use checks::longest;
 use fields::read;
 use fields::write;
 use heading::read_heading;
+pub use places::count_keys;
 
 // The numbers of what is accepted and of what encoding refuses.
 pub const ACCEPTED: u32 = 0;

@@ -53,7 +53,7 @@ impl Places {
 }
 
 // How many keys are set, and so how many cookie values follow.
-fn count_keys(keys: u8) -> usize
+pub fn count_keys(keys: u8) -> usize
     ensures { λ r. ⌜ (r ≡ ones keys) × (r ≤ 8) ⌝ }
 {
     u32::count_ones(keys as u32) as usize

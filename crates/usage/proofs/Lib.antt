@@ -1,0 +1,4 @@
+pub mod Weights
+pub mod Carried
+pub mod Counting
+pub mod Answers
