@@ -112,17 +112,21 @@ values r = map (cookieValue (r .state)) (cookieIndex 0 0 ∷ cookieIndex 1 0 ∷
 abbrev pub statesDiffer : Trace → Trace → Bool
 statesDiffer a b = sameNumbers (values a) (9 ∷ 7 ∷ 8 ∷ []) && sameNumbers (values b) (0 ∷ 7 ∷ 0 ∷ [])
 
--- They send different bytes. Each record of both sends one request, as none that is refused does, so all are accepted. With what is hidden
--- there are a request of the hidden load and one of its response's script, and cookie (1,1) is in the last request.
-abbrev pub requestsDiffer : Trace → Trace → Bool
-requestsDiffer a b =
-    sameNumbers (sentBytes (a .requests)) (
+-- what the first of them sends
+abbrev pub sentWithHidden : List ℕ
+sentWithHidden =
     0x03 ∷ 0x01 ∷ 0x01
     ∷ 0x03 ∷ 0x00 ∷ 0x00
     ∷ 0x0f ∷ 0x00 ∷ 0x00 ∷ 0x01 ∷ 0x00 ∷ 0x00 ∷ 0x00 ∷ 0x09 ∷ 0x00
     ∷ 0x0f ∷ 0x01 ∷ 0x01 ∷ 0x01 ∷ 0x00 ∷ 0x00 ∷ 0x00 ∷ 0x07 ∷ 0x00
     ∷ 0x07 ∷ 0x02 ∷ 0x01 ∷ 0x02 ∷ 0x00 ∷ 0x00 ∷ 0x00 ∷ 0x08
-    ∷ [])
+    ∷ []
+
+-- They send different bytes. Each record of both sends one request, as none that is refused does, so all are accepted. With what is hidden
+-- there are a request of the hidden load and one of its response's script, and cookie (1,1) is in the last request.
+abbrev pub requestsDiffer : Trace → Trace → Bool
+requestsDiffer a b =
+    sameNumbers (sentBytes (a .requests)) sentWithHidden
     && sameNumbers (sentBytes (b .requests)) (
     0x03 ∷ 0x01 ∷ 0x01
     ∷ 0x0f ∷ 0x01 ∷ 0x01 ∷ 0x01 ∷ 0x00 ∷ 0x00 ∷ 0x00 ∷ 0x07 ∷ 0x00

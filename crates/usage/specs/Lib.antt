@@ -1,2 +1,3 @@
 pub mod Tally
 pub mod Lines
+pub mod Cases

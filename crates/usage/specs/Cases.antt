@@ -1,0 +1,71 @@
+-- Worked cases of the tally: lists with all that is answered.
+use Prim.Native.Nat.{ℕ}
+use mathlib.Core.Bool.{Bool, true, _&&_}
+use mathlib.Core.List.{List, [], _∷_, _++_}
+use lib.Dec.{T}
+use lib.ListN.{replicate}
+use Rattle.machine.specs.Policy.{urlRows}
+use Rattle.machine.specs.Cases.{sameNumbers}
+use Rattle.machine.specs.SecrecyExamples.{sentWithHidden}
+use Rattle.usage.specs.declared.Tally.{Tally}
+use Rattle.usage.specs.Tally.{listBad, listBytes, tallied}
+use Rattle.usage.specs.Lines.{Line, lines}
+
+-- what a list is answered: the number, the lines as URL, records and cookies, and both totals
+pub record Case : Type 0 where
+  pub requests : List ℕ
+  pub number : ℕ
+  pub lines : List ℕ
+  pub totals : List ℕ
+
+abbrev pub counted : List ℕ → List ℕ → List ℕ → Case
+counted requests lines totals = record { requests = requests; number = 0; lines = lines; totals = totals }
+
+abbrev pub bad : List ℕ → Case
+bad requests = record { requests = requests; number = listBad; lines = []; totals = 0 ∷ 0 ∷ [] }
+
+unfoldable pub numbersOf : List Line → List ℕ
+numbersOf [] = []
+numbersOf (l ∷ ls) = l .url ∷ l .records ∷ l .cookies ∷ numbersOf ls
+
+unfoldable pub gives : Case → Bool
+gives c =
+    let t = tallied (c .requests) in
+    sameNumbers (t .number ∷ []) (c .number ∷ [])
+    && (sameNumbers (numbersOf (lines t)) (c .lines)
+    && sameNumbers (t .«all_records» ∷ t .«all_cookies» ∷ []) (c .totals))
+
+unfoldable pub allGive : List Case → Bool
+allGive [] = true
+allGive (c ∷ cs) = gives c && allGive cs
+
+abbrev pub tallyCases : List Case
+tallyCases =
+    -- no request; one without cookies; one of key map 07, whose cookies are counted singly
+    counted [] [] (0 ∷ 0 ∷ [])
+    ∷ counted (0x03 ∷ 0x05 ∷ 0x02 ∷ []) (5 ∷ 1 ∷ 0 ∷ []) (1 ∷ 0 ∷ [])
+    ∷ counted (0x07 ∷ 0x00 ∷ 0x00 ∷ 0x07 ∷ replicate 12 0xff) (0 ∷ 1 ∷ 3 ∷ []) (1 ∷ 3 ∷ [])
+    -- what a session sent (the first list of SecrecyExamples): URLs in rising order, each with all of its requests
+    ∷ counted sentWithHidden (0 ∷ 2 ∷ 1 ∷ 1 ∷ 2 ∷ 1 ∷ 2 ∷ 1 ∷ 1 ∷ []) (5 ∷ 3 ∷ [])
+    -- the last URL, connection and handler; all eight keys
+    ∷ counted (0x0b ∷ 0x3f ∷ 0x1f ∷ 0x0f ∷ []) (63 ∷ 1 ∷ 0 ∷ []) (1 ∷ 0 ∷ [])
+    ∷ counted (0x0f ∷ 0x3f ∷ 0x1f ∷ 0xff ∷ (replicate 32 0x00 ++ (0x0f ∷ []))) (63 ∷ 1 ∷ 8 ∷ []) (1 ∷ 8 ∷ [])
+    -- out of range: URL 64, connection 32, handler 16; also where all others are in range
+    ∷ bad (0x03 ∷ 0x40 ∷ 0x00 ∷ [])
+    ∷ bad (0x03 ∷ 0x00 ∷ 0x20 ∷ [])
+    ∷ bad (0x0b ∷ 0x00 ∷ 0x00 ∷ 0x10 ∷ [])
+    ∷ bad (0x03 ∷ 0x00 ∷ 0x00 ∷ 0x03 ∷ 0x40 ∷ 0x00 ∷ 0x03 ∷ 0x00 ∷ 0x00 ∷ [])
+    -- not wholly requests: cut in the front, before the key map, in the values, before the handler; a byte too many
+    ∷ bad (0x03 ∷ 0x00 ∷ [])
+    ∷ bad (0x07 ∷ 0x00 ∷ 0x00 ∷ [])
+    ∷ bad (0x07 ∷ 0x00 ∷ 0x00 ∷ 0x01 ∷ 0x00 ∷ 0x00 ∷ 0x00 ∷ [])
+    ∷ bad (0x0b ∷ 0x00 ∷ 0x00 ∷ [])
+    ∷ bad (0x03 ∷ 0x00 ∷ 0x00 ∷ 0x03 ∷ [])
+    -- a key map of zero; the map of an input; no map
+    ∷ bad (0x07 ∷ 0x00 ∷ 0x00 ∷ 0x00 ∷ [])
+    ∷ bad (0x13 ∷ 0x00 ∷ 0x00 ∷ 0x00 ∷ 0x00 ∷ 0x00 ∷ 0x07 ∷ [])
+    ∷ bad (0x00 ∷ 0x00 ∷ 0x00 ∷ [])
+    ∷ []
+
+abbrev pub TallyCases : Type 0
+TallyCases = T (allGive tallyCases)
