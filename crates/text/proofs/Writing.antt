@@ -1,5 +1,5 @@
 -- Pieces written one after another are written as one, and what is written from place 0 on is at the front.
-use Rattle.prelude.proofs.Kit.{ℕ, _≤_, _<_, _+_, suc, zero-add, add-one, arith, List, _∷_, [], _++_, _≡_, _∙_, refl, ap, length, drop, getD}
+use Rattle.prelude.proofs.Kit.{ℕ, _≤_, _<_, _+_, suc, zero-add, add-one, arith, List, _∷_, [], _++_, _≡_, sym, _∙_, refl, ap, length, drop, getD}
 use Rattle.prelude.proofs.Kit.{set, length-append, sets, drop-cons}
 use lib.Seq.{drop-length, length-sets, sets-eq}
 use Rattle.prelude.proofs.Lists.{sets-append}
@@ -24,6 +24,32 @@ at-front {l} {m} {x} f = (
 -- what is at the front of a text is within it
 pub front-within : (x l m : List ℕ) (k : ℕ) → AtFront x l m k → k ≤ length m
 front-within x l m k f = omega (arith, f .0, ap length (f .1), length-append x (drop (length x) l))
+
+-- ---- pieces in a loop: what is left to write makes the whole
+
+pub record Writing (before : List ℕ) (start : ℕ) (whole text : List ℕ) (at : ℕ) (left : List ℕ) : Type 0 where
+  pub long : length text ≡ length before
+  pub place : at + length left ≡ start + length whole
+  pub remains : sets text at left ≡ sets before start whole
+
+module _ {before : List ℕ} {start : ℕ} {whole : List ℕ} where
+  pub writing-begins : Writing before start whole before start whole
+  writing-begins = record { long = refl; place = refl; remains = refl }
+
+  pub writing-goes-on : {text after left rest piece : List ℕ} {at next : ℕ} → Writing before start whole text at left → left ≡ piece ++ rest
+      → Wrote text at piece after next → Writing before start whole after next rest
+  writing-goes-on {text} {after} {left} {rest} {piece} {at} p e w = record {
+    long = ap length (w .written) ∙ length-sets text at piece ∙ p .long;
+    place = omega (arith, p .place, w .place, ap length e, length-append piece rest);
+    remains = rw (w .written, w .place) (sym (sets-append piece rest text at) ∙ ap (sets text at) (sym e) ∙ p .remains);
+  }
+
+  pub writing-ends : {text left : List ℕ} {at : ℕ} → Writing before start whole text at left → left ≡ [] → at ≤ length before → Wrote before start whole text at
+  writing-ends {text} {left} {at} p e l = record {
+    place = omega (arith, p .place, ap length e);
+    within = l;
+    written = sym (ap (sets text at) e) ∙ p .remains;
+  }
 
 -- ---- a copy: what is left to write from an index on makes the whole
 

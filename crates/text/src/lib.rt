@@ -3,7 +3,7 @@ ghost use Prim.Native.Nat.{_+_, _<_, _≤_};
 ghost use mathlib.Core.Path.{_≡_};
 ghost use mathlib.Core.List.{[], _∷_, _++_};
 ghost use lib.ListN.{length};
-ghost use Rattle.text.specs.Text.{decimal, hexDigit, hex, Wrote};
+ghost use Rattle.text.specs.Text.{decimal, hexDigit, hex, line, Wrote};
 
 pub fn write_bytes(text: &mut [u8], at: usize, bytes: &[u8]) -> usize
     requires { ⌜ at + length (now bytes) ≤ length (now text) ⌝ }
@@ -36,6 +36,15 @@ pub fn write_number(text: &mut [u8], at: usize, n: u32, end: u8) -> usize
     let last = write_decimal(text, at, n);
     text[last] = end;
     last + 1
+}
+
+// Two numbers at the end of a line, each of at most ten digits.
+pub fn write_pair(text: &mut [u8], at: usize, n: u32, m: u32) -> usize
+    requires { ⌜ at + 22 ≤ length (now text) ⌝ }
+    ensures { λ r. ⌜ Wrote (now (text .entry)) at (line (decimal n ∷ decimal m ∷ [])) (now (text .exit)) r ⌝ }
+{
+    let next = write_number(text, at, n, b' ');
+    write_number(text, next, m, b'\n')
 }
 
 fn hex_digit(n: u8) -> u8

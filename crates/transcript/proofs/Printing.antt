@@ -1,15 +1,14 @@
 -- The loop over the requests: the lines that are left to write make the whole, and there is room for them.
-use Rattle.prelude.proofs.Kit.{ℕ, _≤_, _<_, _+_, _-_, _*_, arith, List, _∷_, [], _++_, _≡_, sym, _∙_, refl, ap, length, take, drop}
-use Rattle.prelude.proofs.Kit.{length-append, length-drop, sets, take-all, drop-drop}
-use lib.Seq.{length-sets}
+use Rattle.prelude.proofs.Kit.{ℕ, _≤_, _<_, _+_, _-_, _*_, arith, List, _∷_, [], _++_, _≡_, sym, _∙_, ap, length, drop}
+use Rattle.prelude.proofs.Kit.{length-append, length-drop, drop-drop}
 use Rattle.prelude.specs.Refusals.{accepted}
 use Rattle.records.specs.declared.Direction.the-variants.{Request}
 use Rattle.records.specs.declared.First.{First}
 use Rattle.records.proofs.ReadRuns.{first-bytes}
-use Rattle.prelude.proofs.Lists.{sets-append}
 use Rattle.text.specs.Text.{space, newline, decimal, hex, Wrote}
 use Rattle.transcript.specs.Lines.{requestLine, sentLines}
 use Rattle.text.proofs.Decimals.{byte-room}
+use Rattle.text.proofs.Writing.{Writing, writing-begins, writing-goes-on, writing-ends}
 use Rattle.transcript.proofs.Requests.{firstRequest, lineOf, first-three, lines-more}
 
 line-short : (url connection keys : ℕ) → url < 256 → connection < 256 → length (requestLine url connection keys) ≤ 13
@@ -23,25 +22,19 @@ line-short url connection keys u c =
       length-append (decimal connection ++ (space ∷ [])) (hex keys ++ (newline ∷ [])),
     )
 
--- `from` bytes are read and their lines end at `at`: the lines that are left to write make the whole
+-- `from` bytes are read and their lines end at `at`: the lines of the rest are left to write, and there is room for them
 pub record Printing (before : List ℕ) (start : ℕ) (sent text : List ℕ) (at from : ℕ) : Type 0 where
   pub below : from ≤ length sent
-  pub long : length text ≡ length before
   pub room : at + 5 * (length sent - from) ≤ length before
-  pub place : at + length (sentLines (drop from sent)) ≡ start + length (sentLines sent)
-  pub remains : sets text at (sentLines (drop from sent)) ≡ sets before start (sentLines sent)
+  pub writing : Writing before start (sentLines sent) text at (sentLines (drop from sent))
 
 module _ {before : List ℕ} {start : ℕ} {sent : List ℕ} where
   pub printing-begins : start + 5 * length sent ≤ length before → Printing before start sent before start 0
-  printing-begins h = record { below = omega arith; long = refl; room = omega arith; place = refl; remains = refl }
+  printing-begins h = record { below = omega arith; room = omega arith; writing = writing-begins }
 
   module _ {text : List ℕ} {at from : ℕ} (p : Printing before start sent text at from) where
     pub printing-ends : sentLines (drop from sent) ≡ [] → Wrote before start (sentLines sent) text at
-    printing-ends e = record {
-      place = omega (arith, p .place, ap length e);
-      within = omega (arith, p .room);
-      written = sym (ap (sets text at) e) ∙ p .remains;
-    }
+    printing-ends e = writing-ends (p .writing) e (omega (arith, p .room))
 
     -- the first of the bytes that are left is an accepted request
     module _ {d : First} (read : d ≡ firstRequest (drop from sent)) (ok : d .number ≡ accepted) where
@@ -56,19 +49,16 @@ module _ {before : List ℕ} {start : ℕ} {sent : List ℕ} where
 
       -- it has at least 3 bytes, so there is room for the 13 of its line
       pub request-room : at + 13 ≤ length text
-      request-room = omega (arith, p .room, p .long, request-bytes .0, request-bytes .1)
+      request-room = omega (arith, p .room, p .writing .long, request-bytes .0, request-bytes .1)
 
       pub printing-goes-on : {after : List ℕ} {next : ℕ} → d .fields .url < 256 → d .fields .connection < 256
           → Wrote text at (lineOf d) after next → Printing before start sent after next (from + d .length)
       printing-goes-on u c w =
           let rest = drop from sent in
-          let line = lineOf d in
           let to = from + d .length in
-          let more : sentLines rest ≡ line ++ sentLines (drop to sent) = rw (← drop-drop (d .length) from sent, read) (lines-more rest first-ok) in
+          let more : sentLines rest ≡ lineOf d ++ sentLines (drop to sent) = rw (← drop-drop (d .length) from sent, read) (lines-more rest first-ok) in
           record {
             below = omega (arith, request-bytes .1);
-            long = ap length (w .written) ∙ length-sets text at line ∙ p .long;
             room = omega (arith, p .room, w .place, line-short (d .fields .url) (d .fields .connection) (d .fields .keys) u c, request-bytes .0, request-bytes .1);
-            place = omega (arith, p .place, w .place, ap length more, length-append line (sentLines (drop to sent)));
-            remains = rw (w .written, w .place) (sym (sets-append line (sentLines (drop to sent)) text at) ∙ ap (sets text at) (sym more) ∙ p .remains);
+            writing = writing-goes-on (p .writing) more w;
           }

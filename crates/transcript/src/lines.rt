@@ -11,6 +11,7 @@ use records::Direction;
 use text::write_bytes;
 use text::write_hex;
 use text::write_number;
+use text::write_pair;
 
 // What is printed of an input that walk does not take; of any other, nothing.
 pub fn write_size_line(text: &mut [u8], size: InputSize) -> usize
@@ -97,7 +98,6 @@ pub fn write_last_line(text: &mut [u8], ending: Ending, counts: Counts) -> usize
     requires { ⌜ 26 ≤ length (now text) ⌝ }
     ensures { λ r. ⌜ AtFront (lastLine ending (counts .accepted) (counts .refused)) (now (text .entry)) (now (text .exit)) r ⌝ }
 {
-    let at_accepted = write_ending(text, ending);
-    let at_refused = write_number(text, at_accepted, counts.accepted, b' ');
-    write_number(text, at_refused, counts.refused, b'\n')
+    let at = write_ending(text, ending);
+    write_pair(text, at, counts.accepted, counts.refused)
 }

@@ -16,7 +16,7 @@ use Rattle.records.specs.Codec.{readRun}
 use Rattle.machine.specs.Policy.{urlRows}
 use Rattle.usage.specs.declared.Tally.{Tally}
 use Rattle.usage.specs.Tally.{cookiesIn, requestsTo, urls, counts, allInRange, good, listRefusals, refused, tallied}
-use Rattle.usage.specs.Lines.{Line, lineOf, hasAny, lines, figures, LinesAreFigures, LinesAddUp}
+use Rattle.usage.specs.Lines.{Line, lineOf, hasAny, linesOf, lines, figures, LinesAreFigures, LinesAddUp}
 use Rattle.usage.proofs.Weights.{weight, one, length-weight, parts-weigh}
 use Rattle.usage.proofs.Carried.{carried}
 
@@ -59,14 +59,17 @@ map-same f g (suc n) from e =
     let rest = map-same f g n (suc from) (λ k l. subst (λ (j : ℕ). f j ≡ g j) (omega arith) (e (suc k) (suc-le-suc l))) in
     λ i. here i ∷ rest i
 
+abbrev line-of : List Record → ℕ → Line
+line-of rs u = lineOf (counts rs .records) (counts rs .cookies) u
+
 lines-are : (rs : List Record) → lines (counts rs) ≡ keep hasAny (map (figures rs) urls)
-unfolding lines counts urls
-lines-are rs = ap (keep hasAny) (map-same (lineOf (counts rs)) (figures rs) urlRows 0 (λ k l. subst (λ (j : ℕ). lineOf (counts rs) j ≡ figures rs j) (sym (zero-add k)) (at k l)))
+unfolding linesOf counts urls
+lines-are rs = ap (keep hasAny) (map-same (line-of rs) (figures rs) urlRows 0 (λ k l. subst (λ (j : ℕ). line-of rs j ≡ figures rs j) (sym (zero-add k)) (at k l)))
   where
     found : (f : ℕ → ℕ) (k : ℕ) → k < urlRows → getD (map f (numbers 0 urlRows)) k 0 ≡ f k
     found f k l = map-at f urlRows 0 k l ∙ ap f (zero-add k)
 
-    at : (k : ℕ) → k < urlRows → lineOf (counts rs) k ≡ figures rs k
+    at : (k : ℕ) → k < urlRows → line-of rs k ≡ figures rs k
     at k l =
         let records = found (λ u. length (requestsTo u rs)) k l in
         let cookies = found (λ u. cookiesIn (requestsTo u rs)) k l in

@@ -9,11 +9,11 @@ use Rattle.machine.specs.Session.{has}
 use Rattle.machine.specs.Machine.{cookiesOf}
 use Rattle.machine.specs.Cases.{sameNumbers}
 use Rattle.usage.specs.Tally.{cookiesIn, requestsTo, urls, counts, allInRange, good, tallied}
-use Rattle.usage.specs.Lines.{lines}
+use Rattle.usage.specs.Lines.{linesOf}
 use Rattle.usage.specs.Cases.{numbersOf, gives, allGive, TallyCases}
 
 pub tally-cases : TallyCases
 unfolding branch keep numbers firstOf number widths start size split fromValues
     isOneOf noKeySet keysOf mapUnknown keysZero lengthOther readRefusal fieldsOf decoded firstRecord readAtMost readRun
-    has cookiesOf sameNumbers cookiesIn requestsTo urls counts allInRange good tallied lines numbersOf gives allGive
+    has cookiesOf sameNumbers cookiesIn requestsTo urls counts allInRange good tallied linesOf numbersOf gives allGive
 tally-cases = tt

@@ -19,16 +19,19 @@ pub record Line : Type 0 where
   pub records : ℕ
   pub cookies : ℕ
 
--- the figures of a URL in a tally
-abbrev pub lineOf : Tally → ℕ → Line
-lineOf t u = record { url = u; records = getD (t .records) u 0; cookies = getD (t .cookies) u 0 }
+-- the figures of a URL among those of all
+abbrev pub lineOf : List ℕ → List ℕ → ℕ → Line
+lineOf records cookies u = record { url = u; records = getD records u 0; cookies = getD cookies u 0 }
 
 abbrev pub hasAny : Line → Bool
 hasAny l = ltb 0 (l .records)
 
 -- a line for each URL that has any request, in rising order
-unfoldable pub lines : Tally → List Line
-lines t = keep hasAny (map (lineOf t) urls)
+unfoldable pub linesOf : List ℕ → List ℕ → List Line
+linesOf records cookies = keep hasAny (map (lineOf records cookies) urls)
+
+abbrev pub lines : Tally → List Line
+lines t = linesOf (t .records) (t .cookies)
 
 -- ---- what they say
 
