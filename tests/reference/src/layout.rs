@@ -60,6 +60,8 @@ pub const KIND_SCRIPT: u32 = 2;
 
 /// The map bit of cookies.
 pub const BIT_COOKIES: u8 = 0x04;
+/// The map bit of the script number, which is a request's handler.
+pub const BIT_SCRIPT: u8 = 0x08;
 /// Load.
 pub const MAP_LOAD: u8 = 0x03;
 /// Document response.

@@ -3,7 +3,8 @@
 //!
 //! [`feed`] follows the document rule by rule. [`feed_fast`] gives the same
 //! results without allocation and is tuned for speed. [`walk`] is the
-//! program walk.
+//! program walk. [`tally`] counts the requests of a list, [`tally_fast`] is
+//! the same tuned for speed, and [`tally_text`] is the program tally.
 
 #![forbid(unsafe_code)]
 
@@ -16,13 +17,20 @@ pub mod numbers;
 mod policy;
 mod record;
 mod request;
+mod request_record;
 mod seen;
 mod state;
+mod tally;
+mod tally_fast;
+mod tally_seen;
 mod walk;
 
 pub use fast::feed_fast;
 pub use monitor::{feed, feed_noting};
 pub use seen::{Event, Seen};
+pub use tally::{tally, tally_noting, tally_text, Tally, LIST_BAD, LIST_BYTES};
+pub use tally_fast::tally_fast;
+pub use tally_seen::{TallyEvent, TallySeen};
 pub use walk::walk;
 
 /// What the monitor answers to one record.

@@ -26,7 +26,7 @@ pub struct Record {
 }
 
 /// The maps of input records.
-const INPUT_MAPS: [u8; 7] = [
+pub const INPUT_MAPS: [u8; 7] = [
     MAP_LOAD,
     MAP_DOCUMENT,
     MAP_DOCUMENT_COOKIES,

@@ -1,28 +1,70 @@
 //! What can happen while a record is fed, and counts of it.
 
+/// A list of events, and the type that counts them.
 macro_rules! events {
-    ($($event:ident: $name:literal,)*) => {
+    (enum $events:ident counted in $seen:ident; $($event:ident: $name:literal,)*) => {
         /// One thing that can happen.
         #[derive(Debug, Clone, Copy, PartialEq, Eq)]
-        pub enum Event {
+        pub enum $events {
             $(#[doc = $name] $event,)*
         }
 
-        impl Event {
+        impl $events {
             /// Every event, in the order of declaration.
-            pub const ALL: [Event; [$(Event::$event),*].len()] = [$(Event::$event),*];
+            pub const ALL: [$events; [$($events::$event),*].len()] = [$($events::$event),*];
 
             /// The event in plain English.
             pub fn name(self) -> &'static str {
                 match self {
-                    $(Event::$event => $name,)*
+                    $($events::$event => $name,)*
                 }
+            }
+        }
+
+        /// How often each event occurred.
+        #[derive(Debug, Clone, PartialEq, Eq)]
+        pub struct $seen {
+            counts: [u64; $events::ALL.len()],
+        }
+
+        impl $seen {
+            /// Nothing has occurred.
+            pub fn new() -> $seen {
+                $seen {
+                    counts: [0; $events::ALL.len()],
+                }
+            }
+
+            /// The event occurred once more.
+            pub fn note(&mut self, event: $events) {
+                self.counts[event as usize] += 1;
+            }
+
+            /// How often the event occurred.
+            pub fn count(&self, event: $events) -> u64 {
+                self.counts[event as usize]
+            }
+
+            /// The events that never occurred.
+            pub fn missing(&self) -> Vec<$events> {
+                let never = |event: &$events| self.count(*event) == 0;
+                $events::ALL.into_iter().filter(never).collect()
+            }
+        }
+
+        impl Default for $seen {
+            fn default() -> $seen {
+                $seen::new()
             }
         }
     };
 }
 
+pub(crate) use events;
+
 events! {
+    enum Event counted in Seen;
+
     OutputShort: "1: the output buffer is too short",
 
     PolicyLength: "2: the policy has a wrong length",
@@ -145,41 +187,4 @@ events! {
     EndSkipRegister: "a script ends at a skip on a register above 3",
     EndRunsPast: "a script runs past step 31",
     EndSkipsPast: "a script skips past step 31",
-}
-
-/// How often each event occurred.
-#[derive(Debug, Clone, PartialEq, Eq)]
-pub struct Seen {
-    counts: [u64; Event::ALL.len()],
-}
-
-impl Seen {
-    /// Nothing has occurred.
-    pub fn new() -> Seen {
-        Seen {
-            counts: [0; Event::ALL.len()],
-        }
-    }
-
-    /// The event occurred once more.
-    pub fn note(&mut self, event: Event) {
-        self.counts[event as usize] += 1;
-    }
-
-    /// How often the event occurred.
-    pub fn count(&self, event: Event) -> u64 {
-        self.counts[event as usize]
-    }
-
-    /// The events that never occurred.
-    pub fn missing(&self) -> Vec<Event> {
-        let never = |event: &Event| self.count(*event) == 0;
-        Event::ALL.into_iter().filter(never).collect()
-    }
-}
-
-impl Default for Seen {
-    fn default() -> Seen {
-        Seen::new()
-    }
 }
