@@ -1,4 +1,5 @@
-//! Tells cargo where libmonitor.a is: in the folder that `MONITOR_LIB_DIR` names, or where `rt staticlib monitor` leaves it.
+//! Tells cargo where libmonitor.a is, and libusage.a where the feature `usage` is on: in the folder that `MONITOR_LIB_DIR` names, or where
+//! `rt staticlib` leaves them.
 
 use std::env;
 use std::path::{Path, PathBuf};
@@ -6,17 +7,24 @@ use std::path::{Path, PathBuf};
 fn main() {
     println!("cargo::rerun-if-env-changed=MONITOR_LIB_DIR");
     let folder = env::var_os("MONITOR_LIB_DIR").map_or_else(built_here, PathBuf::from);
-    let library = folder.join("libmonitor.a");
+    println!("cargo::rustc-link-search=native={}", folder.display());
+    link("monitor", &folder);
+    if env::var_os("CARGO_FEATURE_USAGE").is_some() {
+        link("usage", &folder);
+    }
+}
+
+fn link(name: &str, folder: &Path) {
+    let library = folder.join(format!("lib{name}.a"));
     println!("cargo::rerun-if-changed={}", library.display());
-    if !library.is_file() {
+    if library.is_file() {
+        println!("cargo::rustc-link-lib=static={name}");
+    } else {
         println!(
-            "cargo::error={} is not there: run `rt staticlib monitor`, or set MONITOR_LIB_DIR to the folder that has it",
+            "cargo::error={} is not there: run `rt staticlib {name}`, or set MONITOR_LIB_DIR to the folder that has it",
             library.display()
         );
-        return;
     }
-    println!("cargo::rustc-link-search=native={}", folder.display());
-    println!("cargo::rustc-link-lib=static=monitor");
 }
 
 fn built_here() -> PathBuf {

@@ -48,9 +48,16 @@
 //!
 //! An address is an endpoint, 0 to 31: http at host a for a below 16, https at host a - 16 from there on. A set of endpoints is a
 //! word whose bit a stands for endpoint a. Records, requests and scripts are described in `include/monitor.h`.
+//!
+//! # The tally of requests
+//!
+//! With the feature `usage`, the module `usage` counts the requests that were written, by URL. It needs `libusage.a` beside `libmonitor.a`.
 
 #![no_std]
 #![warn(missing_docs)]
+
+#[cfg(feature = "usage")]
+pub mod usage;
 
 use core::fmt;
 
@@ -191,15 +198,13 @@ pub fn feed(
             bytes: answer.bytes as usize,
             steps: answer.steps,
         }),
-        number => Err(Refusal::of(number).unwrap_or_else(|| unknown(number))),
+        number => Err(Refusal::of(number).unwrap_or_else(|| unknown("libmonitor.a", number))),
     }
 }
 
 #[cold]
-fn unknown(number: u32) -> ! {
-    panic!(
-        "libmonitor.a answers {number}, which this crate does not know: they are of two versions"
-    )
+fn unknown(library: &str, number: u32) -> ! {
+    panic!("{library} answers {number}, which this crate does not know: they are of two versions")
 }
 
 /// What `include/monitor.h` declares.
@@ -246,6 +251,6 @@ mod tests {
     #[test]
     #[should_panic(expected = "libmonitor.a answers 1000")]
     fn a_number_that_is_not_known_is_told() {
-        unknown(1000);
+        unknown("libmonitor.a", 1000);
     }
 }

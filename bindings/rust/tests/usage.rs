@@ -1,0 +1,107 @@
+//! The tally through the binding: what is counted, each reason why a list is bad, and the requests of a session.
+
+use std::error::Error;
+
+use zolherima::usage::{count, ListBad, Tally, LIST_BYTES, URLS};
+use zolherima::{feed, NO_URL, OUT_BYTES, POLICY_WORDS, SCRIPT_BYTES, STATE_WORDS};
+
+/// Of some URLs the records and cookies; of all others none.
+fn tally(rows: &[(usize, u32, u32)]) -> Tally {
+    let mut tally = Tally {
+        records: [0; URLS],
+        cookies: [0; URLS],
+        all_records: 0,
+        all_cookies: 0,
+    };
+    for &(url, records, cookies) in rows {
+        tally.records[url] = records;
+        tally.cookies[url] = cookies;
+        tally.all_records += records;
+        tally.all_cookies += cookies;
+    }
+    tally
+}
+
+const PLAIN: [u8; 3] = [0x03, 63, 31];
+
+#[test]
+fn records_and_cookies_are_counted_by_url() {
+    assert_eq!(count(&[]), Ok(tally(&[])));
+    assert_eq!(count(&PLAIN), Ok(tally(&[(63, 1, 0)])));
+    let mut list = Vec::new();
+    list.extend([0x0b, 2, 0, 15]);
+    list.extend([0x07, 0, 1, 0x80, 0xff, 0xff, 0xff, 0xff]);
+    list.extend([0x0f, 2, 0, 0x07, 1, 1, 1, 1, 2, 2, 2, 2, 3, 3, 3, 3, 0]);
+    list.extend(PLAIN);
+    assert_eq!(count(&list), Ok(tally(&[(0, 1, 1), (2, 2, 3), (63, 1, 0)])));
+}
+
+#[test]
+fn the_longest_list_is_counted_and_a_longer_one_is_not() {
+    // three times 65,536 / 3 is one less than the limit, and a script request makes up for it
+    let mut list = PLAIN.repeat(LIST_BYTES / PLAIN.len() - 1);
+    list.extend([0x0b, 63, 31, 15]);
+    assert_eq!(list.len(), LIST_BYTES);
+    let records = (LIST_BYTES / PLAIN.len()) as u32;
+    assert_eq!(count(&list), Ok(tally(&[(63, records, 0)])));
+    list.splice(..PLAIN.len(), [0x0b, 63, 31, 15]);
+    assert_eq!(list.len(), LIST_BYTES + 1);
+    assert_eq!(count(&list), Err(ListBad));
+}
+
+#[test]
+fn what_is_no_list_of_requests_is_bad() {
+    let bad: [&[u8]; 14] = [
+        &[0x00],
+        &[0xff, 0, 0],
+        &[0x13, 0, 0, 0, 0, 0, 1],          // a script response
+        &[0x23, 0, 0, 1],                   // a redirect
+        &[0x03],                            // cut before its URL
+        &[0x03, 0],                         // before its connection
+        &[0x0b, 0, 0],                      // before its handler
+        &[0x07, 0, 0],                      // before its key map
+        &[0x07, 0, 0, 0x03, 0, 0, 0, 7, 0], // within a value
+        &[0x07, 0, 0, 0x00],                // no key
+        &[0x0f, 0, 0, 0x00, 1],
+        &[0x03, 64, 0],
+        &[0x03, 0, 32],
+        &[0x0b, 0, 0, 16],
+    ];
+    for record in bad {
+        assert_eq!(count(record), Err(ListBad), "{record:02x?}");
+        let after_a_good_one = [&PLAIN, record].concat();
+        assert_eq!(count(&after_a_good_one), Err(ListBad), "{record:02x?}");
+    }
+}
+
+#[test]
+fn a_bad_list_has_its_number_and_its_words() {
+    assert_eq!(ListBad.number(), 13);
+    let error: Box<dyn Error> = Box::new(ListBad);
+    assert!(error.to_string().starts_with("the list is "), "{error}");
+}
+
+/// One URL, https at host 0, on connection 0; everybody may learn of it and of its cookie of key 0.
+#[test]
+fn what_a_session_sends_is_counted() {
+    let mut policy = [0; POLICY_WORDS];
+    for url in policy[..192].chunks_exact_mut(3) {
+        url.copy_from_slice(&NO_URL);
+    }
+    policy[..3].copy_from_slice(&[16, u32::MAX, u32::MAX]);
+    policy[192..194].copy_from_slice(&[u32::MAX, u32::MAX]);
+    policy[448..451].copy_from_slice(&[u32::MAX; 3]);
+    let (scripts, mut state, mut out) = ([0; SCRIPT_BYTES], [0; STATE_WORDS], [0; OUT_BYTES]);
+    let mut requests = Vec::new();
+    let records: [&[u8]; 4] = [
+        &[0x03, 0, 0],
+        &[0x0f, 0, 0, 0x01, 0, 0, 0, 7, 0],
+        &[0x03, 0, 0],
+        &[0x03, 0, 0],
+    ];
+    for record in records {
+        let accepted = feed(&policy, &scripts, &mut state, record, &mut out).expect("accepted");
+        requests.extend_from_slice(&out[..accepted.bytes]);
+    }
+    assert_eq!(count(&requests), Ok(tally(&[(0, 3, 2)])));
+}
