@@ -49,8 +49,8 @@ struct usage_tally {
 };
 
 /* Counts the requests of a list, which is read and not changed. Any contents and any length are allowed: what is no list of requests gets
- * USAGE_LIST_BAD. The empty list is one, and has every count 0. What is asked of the caller is memory: `requests` has `requests_length` bytes, and is null
- * only where that is 0; and nobody writes them during the call. */
+ * USAGE_LIST_BAD. The empty list is one, and has every count 0. What is asked of the caller is memory: `requests` has `requests_length` bytes,
+ * and is null only where that is 0; and nobody writes them during the call. */
 struct usage_tally usage_count(const uint8_t *requests, size_t requests_length);
 
 #ifdef __cplusplus
