@@ -1,4 +1,5 @@
-//! Random calls of the monitor, for the tests and the benchmark: policies, script tables, states, records, and damage to each.
+//! Random calls of the monitor, for the tests and the benchmark: policies, script tables, states, records, and damage to each; and what the
+//! tests share to lend them and to tell what came of it.
 //!
 //! Everything comes from a seed and from nothing else, so a case is found again by its seed and its number. What is made here is only
 //! input: no test takes an expected result from this crate. It knows the rules of labels all the same, since records made at random
@@ -6,6 +7,9 @@
 
 pub mod call;
 pub mod damage;
+pub mod difference;
+pub mod events;
+pub mod guarded;
 pub mod labels;
 pub mod plan;
 pub mod policy;

@@ -1,10 +1,11 @@
 //! Feeds a call to all three monitors, each on its own copy of the buffers, and compares.
 
+use cases::difference::Difference;
 use cases::{Call, Random};
 use reference::{Answer, Seen};
 
-use crate::difference::{Difference, Outcome};
-use crate::guarded::Buffers;
+use crate::buffers::Buffers;
+use crate::difference::Outcome;
 use crate::monitors;
 
 /// A monitor that is held to the reference.

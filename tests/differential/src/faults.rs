@@ -2,13 +2,14 @@
 
 use std::ops::BitXorAssign;
 
+use cases::difference::Difference;
+use cases::guarded::Guarded;
 use reference::numbers::{CUT_OR_TOO_LONG, KEY_MAP_EMPTY, READERS_FORBID, WRITERS_FORBID};
 use reference::Answer;
 
+use crate::buffers::Buffers;
 use crate::case::play;
 use crate::checker::{Checker, Monitor};
-use crate::difference::Difference;
-use crate::guarded::{Buffers, Guarded};
 use crate::monitors;
 
 /// The first difference that a few cases find.

@@ -4,8 +4,8 @@ use cases::{Call, Random, Setting};
 use reference::numbers::KIND_UNKNOWN;
 use reference::Seen;
 
+use crate::buffers::Buffers;
 use crate::case::play;
-use crate::guarded::Buffers;
 use crate::monitors;
 
 fn number_of(call: &Call, random: &Random) -> u32 {

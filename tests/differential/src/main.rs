@@ -1,6 +1,7 @@
 //! Feeds random calls and whole runs to the proved library and to two other implementations of document 01, and compares answer, state,
 //! output and every byte around them after each call.
 
+mod buffers;
 mod case;
 mod checker;
 mod difference;
@@ -8,7 +9,6 @@ mod difference;
 mod faults;
 #[cfg(test)]
 mod generated;
-mod guarded;
 mod monitors;
 mod replay;
 mod tally;

@@ -2,7 +2,7 @@
 
 use reference::{Answer, Seen};
 
-use crate::guarded::Buffers;
+use crate::buffers::Buffers;
 
 /// The proved library. Its binding tells a refusal by its number alone.
 pub fn library(buffers: &mut Buffers) -> Answer {

@@ -49,8 +49,8 @@ fn print_outcome(outcome: &Outcome) {
         buffers,
     } = outcome;
     println!(
-        "{monitor}: number {:x}, bytes {:x}, steps {:x}",
-        answer.number, answer.bytes, answer.steps
+        "{}: number {:x}, bytes {:x}, steps {:x}",
+        monitor.0, answer.number, answer.bytes, answer.steps
     );
     print_words("state after", buffers.state.inside());
     print_bytes("output after", buffers.out.inside());

@@ -3,6 +3,7 @@
 use std::collections::BTreeMap;
 use std::iter::once;
 
+use cases::events;
 use reference::{Answer, Event, Seen};
 use zolherima::Refusal;
 
@@ -57,7 +58,7 @@ impl Tally {
         println!("most output bytes{:>12}", self.most_bytes);
         println!("most steps       {:>12}", self.most_steps);
         self.print_numbers();
-        self.print_events(seen);
+        events::print(&Event::ALL.map(|event| (event.name(), seen.count(event))));
     }
 
     fn print_numbers(&self) {
@@ -66,23 +67,6 @@ impl Tally {
         for (number, meaning) in once(accepted).chain(refusals) {
             let count = self.numbers.get(&number).copied().unwrap_or(0);
             println!("{number:>2} {meaning:<63}{count:>12}");
-        }
-    }
-
-    fn print_events(&self, seen: &Seen) {
-        let missing = seen.missing();
-        let all = Event::ALL.len();
-        println!("events seen      {:>5} of {all:>3}", all - missing.len());
-        let rarest = Event::ALL.iter().min_by_key(|event| seen.count(**event));
-        if let Some(rarest) = rarest {
-            println!(
-                "rarest           {:>12} times: {}",
-                seen.count(*rarest),
-                rarest.name()
-            );
-        }
-        for event in missing {
-            println!("never seen: {}", event.name());
         }
     }
 }

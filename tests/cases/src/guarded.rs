@@ -1,6 +1,6 @@
 //! Buffers with guards: each lies inside a larger one whose rest is random, so that a write past either end is seen.
 
-use cases::{Call, Random};
+use crate::random::Random;
 
 const GUARD_LEAST: usize = 16;
 const GUARD_BEHIND: usize = 64;
@@ -31,7 +31,7 @@ pub struct Guarded<T> {
 
 impl<T: Element> Guarded<T> {
     /// Lays `contents` into a buffer of its own. Where it starts varies, and with it the alignment of bytes.
-    fn lay(&mut self, contents: &[T], random: &Random) {
+    pub fn lay(&mut self, contents: &[T], random: &Random) {
         self.start = GUARD_LEAST + random.below(GUARD_LEAST);
         self.end = self.start + contents.len();
         self.whole.resize(self.end + GUARD_BEHIND, T::default());
@@ -41,7 +41,7 @@ impl<T: Element> Guarded<T> {
     }
 
     /// Without guards, in memory of just this length: here valgrind sees what reads past an end.
-    fn lay_bare(&mut self, contents: &[T]) {
+    pub fn lay_bare(&mut self, contents: &[T]) {
         *self = Guarded {
             whole: contents.to_vec(),
             start: 0,
@@ -49,7 +49,7 @@ impl<T: Element> Guarded<T> {
         };
     }
 
-    fn copy(&mut self, from: &Guarded<T>) {
+    pub fn copy(&mut self, from: &Guarded<T>) {
         if from.is_bare() {
             self.lay_bare(&from.whole);
             return;
@@ -77,46 +77,5 @@ impl<T: Element> Guarded<T> {
 
     pub fn behind(&self) -> &[T] {
         &self.whole[self.end..]
-    }
-}
-
-/// The five buffers of a call.
-#[derive(Clone, Default)]
-pub struct Buffers {
-    pub policy: Guarded<u32>,
-    pub scripts: Guarded<u8>,
-    pub state: Guarded<u32>,
-    pub record: Guarded<u8>,
-    pub out: Guarded<u8>,
-}
-
-impl Buffers {
-    pub fn lay(&mut self, call: &Call, random: &Random) {
-        if random.one_in(32) {
-            self.policy.lay_bare(&call.policy);
-            self.scripts.lay_bare(&call.scripts);
-            self.state.lay_bare(&call.state);
-            self.record.lay_bare(&call.record);
-            self.out.lay_bare(&call.out);
-            return;
-        }
-        self.policy.lay(&call.policy, random);
-        self.scripts.lay(&call.scripts, random);
-        self.state.lay(&call.state, random);
-        self.record.lay(&call.record, random);
-        self.out.lay(&call.out, random);
-    }
-
-    pub fn copy(&mut self, from: &Buffers) {
-        self.policy.copy(&from.policy);
-        self.scripts.copy(&from.scripts);
-        self.record.copy(&from.record);
-        self.copy_written(from);
-    }
-
-    /// Only what a monitor writes.
-    pub fn copy_written(&mut self, from: &Buffers) {
-        self.state.copy(&from.state);
-        self.out.copy(&from.out);
     }
 }
