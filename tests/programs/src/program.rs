@@ -1,9 +1,10 @@
 //! Runs the program under test on one input.
 
+use std::env;
 use std::fs::{self, File};
 use std::io::{self, Read, Write};
-use std::path::Path;
-use std::process::{Child, Command, ExitStatus, Stdio};
+use std::path::{Path, PathBuf};
+use std::process::{self, Child, Command, ExitStatus, Stdio};
 use std::sync::mpsc;
 use std::thread;
 use std::time::Duration;
@@ -40,8 +41,27 @@ impl Arrival {
     }
 }
 
-/// Runs `program` on `input`. `file` is where the input is put if it arrives as a file.
-pub fn run(program: &Path, input: &[u8], arrival: Arrival, file: &Path) -> io::Result<Ran> {
+/// What is run on an input: the program, or what a test puts in its place.
+pub type Program = Box<dyn Fn(&[u8], Arrival) -> io::Result<Ran>>;
+
+/// The program of this path, for the test of this name.
+pub fn at(path: &str, test: &str) -> Program {
+    let path = PathBuf::from(path);
+    let file = Scratch(env::temp_dir().join(format!("{test}-{}.input", process::id())));
+    Box::new(move |input, arrival| run(&path, input, arrival, &file.0))
+}
+
+/// Where an input is put that arrives as a file.
+struct Scratch(PathBuf);
+
+impl Drop for Scratch {
+    fn drop(&mut self) {
+        // It is there only if an input arrived as a file.
+        let _ = fs::remove_file(&self.0);
+    }
+}
+
+fn run(program: &Path, input: &[u8], arrival: Arrival, file: &Path) -> io::Result<Ran> {
     let mut command = Command::new(program);
     command.stdout(Stdio::piped()).stderr(Stdio::piped());
     match arrival {

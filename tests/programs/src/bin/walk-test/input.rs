@@ -38,36 +38,8 @@ pub enum Kind {
     Zeros,
 }
 
-/// The kinds in the order of the cases, over and over: each occurs early, and the plain runs most often.
-const ORDER: [Kind; 24] = [
-    Kind::Run,
-    Kind::Cut,
-    Kind::Run,
-    Kind::Short,
-    Kind::Run,
-    Kind::Lengths,
-    Kind::Accepted,
-    Kind::NoRecords,
-    Kind::Run,
-    Kind::Longest,
-    Kind::Run,
-    Kind::Long,
-    Kind::Accepted,
-    Kind::BadPolicy,
-    Kind::Run,
-    Kind::EmptyRecords,
-    Kind::Run,
-    Kind::Bytes,
-    Kind::Accepted,
-    Kind::Ones,
-    Kind::Run,
-    Kind::Zeros,
-    Kind::Run,
-    Kind::Short,
-];
-
-impl Kind {
-    pub const ALL: [Kind; 13] = [
+impl programs::Kind for Kind {
+    const ALL: &'static [Kind] = &[
         Kind::Run,
         Kind::Accepted,
         Kind::Lengths,
@@ -83,14 +55,35 @@ impl Kind {
         Kind::Zeros,
     ];
 
-    /// After so many cases every kind has occurred.
-    pub const CYCLE: u64 = ORDER.len() as u64;
+    /// Each occurs early, and the plain runs most often.
+    const ORDER: &'static [Kind] = &[
+        Kind::Run,
+        Kind::Cut,
+        Kind::Run,
+        Kind::Short,
+        Kind::Run,
+        Kind::Lengths,
+        Kind::Accepted,
+        Kind::NoRecords,
+        Kind::Run,
+        Kind::Longest,
+        Kind::Run,
+        Kind::Long,
+        Kind::Accepted,
+        Kind::BadPolicy,
+        Kind::Run,
+        Kind::EmptyRecords,
+        Kind::Run,
+        Kind::Bytes,
+        Kind::Accepted,
+        Kind::Ones,
+        Kind::Run,
+        Kind::Zeros,
+        Kind::Run,
+        Kind::Short,
+    ];
 
-    pub fn of_case(case: u64) -> Kind {
-        ORDER[(case % Kind::CYCLE) as usize]
-    }
-
-    pub fn name(self) -> &'static str {
+    fn name(self) -> &'static str {
         match self {
             Kind::Run => "run",
             Kind::Accepted => "run, nearly all accepted",
@@ -109,7 +102,7 @@ impl Kind {
     }
 
     /// The inputs of a case: one, but for `Cut`.
-    pub fn inputs(self, random: &Random) -> Vec<Vec<u8>> {
+    fn inputs(self, random: &Random) -> Vec<Vec<u8>> {
         let length = any_length(random);
         match self {
             Kind::Run => vec![run(random)],

@@ -1,0 +1,21 @@
+//! Kinds of inputs.
+
+use cases::Random;
+
+pub trait Kind: Copy + PartialEq + 'static {
+    /// Every kind, as they are told at the end.
+    const ALL: &'static [Self];
+    /// The kinds in the order of the cases, over and over.
+    const ORDER: &'static [Self];
+    /// After so many cases every kind has occurred.
+    const CYCLE: u64 = Self::ORDER.len() as u64;
+
+    fn name(self) -> &'static str;
+
+    /// The inputs of a case.
+    fn inputs(self, random: &Random) -> Vec<Vec<u8>>;
+
+    fn of_case(case: u64) -> Self {
+        Self::ORDER[(case % Self::CYCLE) as usize]
+    }
+}

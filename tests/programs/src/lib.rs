@@ -1,0 +1,11 @@
+//! What the tests of the programs share: inputs by kind, one after another, each held to what the reference says; a table of what was done;
+//! and how a case that failed is done again.
+
+pub mod counts;
+pub mod kind;
+pub mod program;
+pub mod suite;
+pub mod verdict;
+
+pub use kind::Kind;
+pub use suite::{Checked, Suite};

@@ -1,0 +1,205 @@
+//! A test from its arguments to its exit status.
+
+use std::env;
+use std::fs;
+use std::io;
+use std::process::ExitCode;
+
+use cases::plan::Clock;
+use cases::{Extent, Plan, Random};
+
+use crate::counts::{Column, Counts};
+use crate::Kind;
+
+/// What makes a test: its inputs, and what it asks of each of them.
+pub trait Suite {
+    /// The test's own name, which is also that of the files that it leaves.
+    const NAME: &'static str;
+    const USAGE: &'static str;
+    /// What it counts beside inputs, bytes and records.
+    const COLUMNS: &'static [Column];
+    /// In so many cases all occurs that must occur, and what that is.
+    const COVERING: (u64, &'static str);
+
+    type Kind: Kind;
+    /// What is drawn for an input beside the input.
+    type Draw;
+
+    /// Of a case that has so many inputs.
+    fn draw(random: &Random, inputs: usize) -> Self::Draw;
+
+    /// Holds one input to what should come of it.
+    fn check(&mut self, input: &[u8], draw: Self::Draw) -> io::Result<Checked>;
+
+    /// Prints what it has to tell beside the table.
+    fn print_more(&self) {}
+
+    /// The events that did not occur.
+    fn missing(&self) -> Vec<&'static str> {
+        Vec::new()
+    }
+}
+
+/// What came of one input.
+pub struct Checked {
+    /// Nothing, or what differs first.
+    pub verdict: Result<(), String>,
+    pub expected: String,
+    pub found: Vec<u8>,
+    /// How many records the input has, and what else is counted.
+    pub records: u64,
+    pub more: Vec<u64>,
+}
+
+/// Does what the arguments say. The first of them names the program, of which `make` makes the test.
+pub fn main<S: Suite>(make: impl FnOnce(&str) -> S) -> ExitCode {
+    let arguments: Vec<String> = env::args().skip(1).collect();
+    let plan = arguments.get(1..).and_then(Plan::parse);
+    let (Some(program), Some(plan)) = (arguments.first(), plan) else {
+        eprintln!("{}", S::USAGE);
+        return ExitCode::from(2);
+    };
+    let mut test = Test {
+        suite: make(program),
+        program: program.clone(),
+        plan,
+        counts: Counts::new(S::COLUMNS),
+    };
+    match test.go() {
+        Ok(true) => ExitCode::SUCCESS,
+        Ok(false) => ExitCode::FAILURE,
+        Err(error) => {
+            eprintln!("{}: {program}: {error}", S::NAME);
+            ExitCode::from(2)
+        }
+    }
+}
+
+/// Whether some cases of a suite pass, from the default seed: for the tests of a test.
+pub fn passes<S: Suite>(suite: S, cases: u64) -> io::Result<bool> {
+    let mut test = Test {
+        suite,
+        program: "-".to_string(),
+        plan: Plan {
+            seed: cases::plan::DEFAULT_SEED,
+            extent: Extent::Cases(cases),
+        },
+        counts: Counts::new(S::COLUMNS),
+    };
+    test.go()
+}
+
+struct Test<S: Suite> {
+    suite: S,
+    program: String,
+    plan: Plan,
+    counts: Counts<S::Kind>,
+}
+
+impl<S: Suite> Test<S> {
+    fn go(&mut self) -> io::Result<bool> {
+        if let Extent::Replay { case, call } = self.plan.extent {
+            return self.replay(case, call);
+        }
+        let mut clock = Clock::start(self.plan.extent);
+        println!("seed {}", self.plan.seed);
+        let mut done = 0;
+        while clock.goes_on(done) {
+            if !self.check_case(done)? {
+                return Ok(false);
+            }
+            done += 1;
+            if clock.line_is_due() {
+                eprintln!("{}", self.counts.progress(clock.seconds()));
+            }
+        }
+        self.counts.print();
+        self.suite.print_more();
+        println!("no difference");
+        Ok(self.covered(done))
+    }
+
+    /// Whether every kind and event occurred, where there were cases enough for it.
+    fn covered(&self, cases: u64) -> bool {
+        let (enough, what) = S::COVERING;
+        if matches!(self.plan.extent, Extent::Cases(_)) && cases < enough {
+            println!("{cases} cases are fewer than {enough}: not every {what} must occur");
+            return true;
+        }
+        let kinds: Vec<&str> = self.counts.missing().map(Kind::name).collect();
+        let events = self.suite.missing();
+        for name in &kinds {
+            println!("FAILED: this kind did not occur: {name}");
+        }
+        for name in &events {
+            println!("FAILED: this event did not occur: {name}");
+        }
+        kinds.is_empty() && events.is_empty()
+    }
+
+    /// Whether each input of a case had what should come of it.
+    fn check_case(&mut self, case: u64) -> io::Result<bool> {
+        let random = Random::of_case(self.plan.seed, case);
+        let kind = S::Kind::of_case(case);
+        let inputs = kind.inputs(&random);
+        for (index, input) in inputs.iter().enumerate() {
+            let draw = S::draw(&random, inputs.len());
+            let checked = self.suite.check(input, draw)?;
+            if let Err(difference) = &checked.verdict {
+                println!("DIFFERENCE in case {case}, input {index} ({})", kind.name());
+                println!("{difference}");
+                self.save(case, index, input, &checked)?;
+                self.print_replay(case, index);
+                return Ok(false);
+            }
+            let Checked { records, more, .. } = checked;
+            self.counts.add(kind, input, records, &more);
+        }
+        Ok(true)
+    }
+
+    /// Saves the inputs of a case, or one of them, with what should be printed and what is.
+    fn replay(&mut self, case: u64, only: Option<u64>) -> io::Result<bool> {
+        let random = Random::of_case(self.plan.seed, case);
+        let kind = S::Kind::of_case(case);
+        let inputs = kind.inputs(&random);
+        let mut passed = true;
+        for (index, input) in inputs.iter().enumerate() {
+            let draw = S::draw(&random, inputs.len());
+            if only.is_some_and(|only| only != index as u64) {
+                continue;
+            }
+            let checked = self.suite.check(input, draw)?;
+            println!("input {index} ({}), {} bytes", kind.name(), input.len());
+            let difference = checked.verdict.as_ref().err();
+            println!("{}", difference.map_or("no difference", String::as_str));
+            self.save(case, index, input, &checked)?;
+            passed &= checked.verdict.is_ok();
+        }
+        Ok(passed)
+    }
+
+    fn save(&self, case: u64, index: usize, input: &[u8], checked: &Checked) -> io::Result<()> {
+        let parts = [
+            ("input", input),
+            ("expected", checked.expected.as_bytes()),
+            ("found", &checked.found),
+        ];
+        for (part, bytes) in parts {
+            let name = format!("{}-{}-{case}-{index}.{part}", S::NAME, self.plan.seed);
+            let path = env::temp_dir().join(name);
+            fs::write(&path, bytes)?;
+            println!("{part}: {}", path.display());
+        }
+        Ok(())
+    }
+
+    fn print_replay(&self, case: u64, index: usize) {
+        let us = env::args().next().unwrap_or(S::NAME.into());
+        let Test { program, plan, .. } = self;
+        println!(
+            "replay: {us} {program} --replay {}:{case}:{index}",
+            plan.seed
+        );
+    }
+}
