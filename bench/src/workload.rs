@@ -3,6 +3,7 @@
 use cases::labels::{ALL, OPEN_AT, PRESENT_AT, SCRIPTS_BYTES, STATE_WORDS};
 use cases::policy::{document, policy_of, Style};
 use cases::record::{make_accepted, make_record};
+use cases::session::MakeRecord;
 use cases::{state, Random, Setting};
 use reference::layout::SCRIPT_BYTES;
 
@@ -135,8 +136,6 @@ fn set_script(scripts: &mut [u8], script: usize, steps: &[[u8; 4]]) {
     scripts[SCRIPT_BYTES * script..][..4 * steps.len()].copy_from_slice(steps.as_flattened());
 }
 
-type MakeRecord = fn(&Setting, &[u32], &mut Vec<u8>, &Random);
-
 /// Random policies with every URL and connection in use, and states with most cookies and connections.
 fn dense(make: MakeRecord) -> Vec<Session> {
     (0..DENSE_POLICIES as u64)
@@ -146,26 +145,19 @@ fn dense(make: MakeRecord) -> Vec<Session> {
 
 fn dense_session(random: &Random, make: MakeRecord) -> Session {
     let setting = Setting::over(policy_of(Style::Dense, random), random);
-    let mut start = Vec::new();
-    state::make_sound(&setting, &mut start, random);
-    let mut now = start.clone();
-    let mut out = [0; cases::labels::OUTPUT_BYTES];
+    let mut session = cases::Session::start(setting);
+    state::make_sound(&session.setting, &mut session.state, random);
+    let start = session.state.clone();
     let mut records = Vec::new();
     for _ in 0..DENSE_RECORDS {
-        let mut record = Vec::new();
-        make(&setting, &now, &mut record, random);
-        reference::feed(
-            &setting.policy,
-            &setting.scripts,
-            &mut now,
-            &record,
-            &mut out,
-        );
+        let record = session.record(make, random);
+        session.feed(&record);
         records.push(record);
     }
+    let setting = session.setting;
     Session {
-        policy: setting.policy.clone(),
-        scripts: setting.scripts.clone(),
+        policy: setting.policy,
+        scripts: setting.scripts,
         state: start,
         records,
     }

@@ -12,7 +12,7 @@ pub const REDIRECT: u8 = 0x23;
 /// The bit of a map that says that cookies follow.
 pub const COOKIES: u8 = 0x04;
 
-const INPUT_MAPS: [u8; 7] = [0x03, 0x0b, 0x0f, 0x13, 0x17, 0x23, 0x27];
+pub(crate) const INPUT_MAPS: [u8; 7] = [0x03, 0x0b, 0x0f, 0x13, 0x17, 0x23, 0x27];
 
 /// The input maps with cookies.
 const COOKIE_MAPS: [u8; 3] = [0x0f, 0x17, 0x27];
@@ -24,21 +24,25 @@ const REQUEST_MAP: u8 = LOAD | COOKIES;
 const KEY_MAP_AT: usize = 3;
 
 #[derive(Clone, Copy, Default)]
-struct Fields {
-    map: u8,
-    url: u8,
-    connection: u8,
-    keys: u8,
-    values: [u32; KEYS],
-    script: u8,
-    value: u32,
-    target: u8,
+pub(crate) struct Fields {
+    pub map: u8,
+    pub url: u8,
+    pub connection: u8,
+    pub keys: u8,
+    pub values: [u32; KEYS],
+    pub script: u8,
+    pub value: u32,
+    pub target: u8,
 }
 
 impl Fields {
-    /// The fields that the map carries, in the order of its bits.
     fn write(&self, record: &mut Vec<u8>) {
         record.clear();
+        self.append(record);
+    }
+
+    /// The fields that the map carries, in the order of its bits.
+    pub fn append(&self, record: &mut Vec<u8>) {
         record.push(self.map);
         let carries = |bit: u8| self.map >> bit & 1 == 1;
         if carries(0) {

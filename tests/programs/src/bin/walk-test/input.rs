@@ -2,10 +2,9 @@
 
 use cases::damage::damage_policy;
 use cases::record::{make_accepted, make_record};
-use cases::state::make_empty;
-use cases::{Random, Setting};
+use cases::{Random, Session, Setting};
 use reference::layout::{
-    OUTPUT_BYTES, POLICY_WORDS, RECORD_BYTES, WALK_LONGEST as LONGEST, WALK_SHORTEST as RECORDS_AT,
+    POLICY_WORDS, RECORD_BYTES, WALK_LONGEST as LONGEST, WALK_SHORTEST as RECORDS_AT,
 };
 
 #[derive(Clone, Copy, Debug, PartialEq, Eq)]
@@ -122,11 +121,9 @@ impl programs::Kind for Kind {
     }
 }
 
-/// An input that grows record by record. The reference keeps the state, so that the next record can fit it.
+/// An input that grows record by record.
 struct Builder {
-    setting: Setting,
-    state: Vec<u32>,
-    out: [u8; OUTPUT_BYTES],
+    session: Session,
     bytes: Vec<u8>,
 }
 
@@ -142,12 +139,8 @@ impl Builder {
             .flat_map(|w| w.to_be_bytes())
             .collect();
         bytes.extend_from_slice(&setting.scripts);
-        let mut state = Vec::new();
-        make_empty(&mut state);
         Builder {
-            setting,
-            state,
-            out: [0; OUTPUT_BYTES],
+            session: Session::start(setting),
             bytes,
         }
     }
@@ -157,21 +150,16 @@ impl Builder {
         let record = &record[..record.len().min(255)];
         self.bytes.push(record.len() as u8);
         self.bytes.extend_from_slice(record);
-        let Setting {
-            policy, scripts, ..
-        } = &self.setting;
-        reference::feed(policy, scripts, &mut self.state, record, &mut self.out);
+        self.session.feed(record);
     }
 
     fn push_random(&mut self, random: &Random) {
-        let mut record = Vec::new();
-        make_record(&self.setting, &self.state, &mut record, random);
+        let record = self.session.record(make_record, random);
         self.push(&record);
     }
 
     fn push_accepted(&mut self, random: &Random) {
-        let mut record = Vec::new();
-        make_accepted(&self.setting, &self.state, &mut record, random);
+        let record = self.session.record(make_accepted, random);
         self.push(&record);
     }
 }
