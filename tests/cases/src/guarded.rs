@@ -1,5 +1,7 @@
 //! Buffers with guards: each lies inside a larger one whose rest is random, so that a write past either end is seen.
 
+use std::ops::BitXorAssign;
+
 use crate::random::Random;
 
 const GUARD_LEAST: usize = 16;
@@ -77,5 +79,24 @@ impl<T: Element> Guarded<T> {
 
     pub fn behind(&self) -> &[T] {
         &self.whole[self.end..]
+    }
+}
+
+/// Changes a bit, as a subject with a fault may do: for tests of the tests.
+pub fn flip<T: BitXorAssign + From<u8>>(element: Option<&mut T>) {
+    if let Some(element) = element {
+        *element ^= T::from(1);
+    }
+}
+
+impl<T: BitXorAssign + From<u8>> Guarded<T> {
+    /// Changes the guard just before the buffer.
+    pub fn flip_before(&mut self) {
+        flip(self.whole[..self.start].last_mut());
+    }
+
+    /// Changes the guard just behind the buffer.
+    pub fn flip_behind(&mut self) {
+        flip(self.whole[self.end..].first_mut());
     }
 }

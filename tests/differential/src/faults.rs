@@ -1,9 +1,7 @@
 //! The test can fail: monitors with a single fault each are told from the reference, by the thing that the fault changes.
 
-use std::ops::BitXorAssign;
-
 use cases::difference::Difference;
-use cases::guarded::Guarded;
+use cases::guarded::flip;
 use reference::numbers::{CUT_OR_TOO_LONG, KEY_MAP_EMPTY, READERS_FORBID, WRITERS_FORBID};
 use reference::Answer;
 
@@ -59,20 +57,6 @@ fn spoiling(spoil: Spoil) -> Monitor {
 fn assert_found(monitor: Monitor, what: &str) {
     let found = first_difference(monitor).expect("the fault is found");
     assert_eq!(format!("{}{}", found.part, found.what), what, "{found}");
-}
-
-fn flip<T: BitXorAssign + From<u8>>(element: Option<&mut T>) {
-    if let Some(element) = element {
-        *element ^= T::from(1);
-    }
-}
-
-fn flip_before<T: BitXorAssign + From<u8>>(buffer: &mut Guarded<T>) {
-    flip(buffer.whole[..buffer.start].last_mut());
-}
-
-fn flip_behind<T: BitXorAssign + From<u8>>(buffer: &mut Guarded<T>) {
-    flip(buffer.whole[buffer.end..].first_mut());
 }
 
 #[test]
@@ -140,22 +124,22 @@ fn a_touched_input_is_found() {
 #[test]
 fn a_broken_guard_is_found() {
     let faults: [(Spoil, &str); 10] = [
-        (|_, b| flip_before(&mut b.policy), "guard before the policy"),
-        (|_, b| flip_behind(&mut b.policy), "guard behind the policy"),
+        (|_, b| b.policy.flip_before(), "guard before the policy"),
+        (|_, b| b.policy.flip_behind(), "guard behind the policy"),
         (
-            |_, b| flip_before(&mut b.scripts),
+            |_, b| b.scripts.flip_before(),
             "guard before the script table",
         ),
         (
-            |_, b| flip_behind(&mut b.scripts),
+            |_, b| b.scripts.flip_behind(),
             "guard behind the script table",
         ),
-        (|_, b| flip_before(&mut b.state), "guard before the state"),
-        (|_, b| flip_behind(&mut b.state), "guard behind the state"),
-        (|_, b| flip_before(&mut b.record), "guard before the record"),
-        (|_, b| flip_behind(&mut b.record), "guard behind the record"),
-        (|_, b| flip_before(&mut b.out), "guard before the output"),
-        (|_, b| flip_behind(&mut b.out), "guard behind the output"),
+        (|_, b| b.state.flip_before(), "guard before the state"),
+        (|_, b| b.state.flip_behind(), "guard behind the state"),
+        (|_, b| b.record.flip_before(), "guard before the record"),
+        (|_, b| b.record.flip_behind(), "guard behind the record"),
+        (|_, b| b.out.flip_before(), "guard before the output"),
+        (|_, b| b.out.flip_behind(), "guard behind the output"),
     ];
     for (fault, what) in faults {
         assert_found(spoiling(fault), what);

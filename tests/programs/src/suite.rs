@@ -5,7 +5,7 @@ use std::fs;
 use std::io;
 use std::process::ExitCode;
 
-use cases::plan::Clock;
+use cases::plan::{Clock, DEFAULT_SEED};
 use cases::{Extent, Plan, Random};
 
 use crate::counts::{Column, Counts};
@@ -75,18 +75,39 @@ pub fn main<S: Suite>(make: impl FnOnce(&str) -> S) -> ExitCode {
     }
 }
 
-/// Whether some cases of a suite pass, from the default seed: for the tests of a test.
-pub fn passes<S: Suite>(suite: S, cases: u64) -> io::Result<bool> {
-    let mut test = Test {
-        suite,
-        program: "-".to_string(),
-        plan: Plan {
-            seed: cases::plan::DEFAULT_SEED,
-            extent: Extent::Cases(cases),
-        },
-        counts: Counts::new(S::COLUMNS),
-    };
-    test.go()
+/// The first difference that some cases find: with a suite that has a fault, this tests the test.
+pub fn first_difference<S: Suite>(suite: &mut S, cases: u64) -> io::Result<Option<String>> {
+    for case in 0..cases {
+        for (input, draw) in Case::<S>::of(DEFAULT_SEED, case).inputs {
+            if let Err(difference) = suite.check(&input, draw)?.verdict {
+                return Ok(Some(difference));
+            }
+        }
+    }
+    Ok(None)
+}
+
+/// A case: the inputs of a kind, each with what is drawn for it.
+struct Case<S: Suite> {
+    kind: S::Kind,
+    inputs: Vec<(Vec<u8>, S::Draw)>,
+}
+
+impl<S: Suite> Case<S> {
+    fn of(seed: u64, case: u64) -> Case<S> {
+        let random = Random::of_case(seed, case);
+        let kind = S::Kind::of_case(case);
+        let inputs = kind.inputs(&random);
+        let count = inputs.len();
+        let draws = inputs
+            .iter()
+            .map(|_| S::draw(&random, count))
+            .collect::<Vec<_>>();
+        Case {
+            kind,
+            inputs: inputs.into_iter().zip(draws).collect(),
+        }
+    }
 }
 
 struct Test<S: Suite> {
@@ -139,41 +160,35 @@ impl<S: Suite> Test<S> {
 
     /// Whether each input of a case had what should come of it.
     fn check_case(&mut self, case: u64) -> io::Result<bool> {
-        let random = Random::of_case(self.plan.seed, case);
-        let kind = S::Kind::of_case(case);
-        let inputs = kind.inputs(&random);
-        for (index, input) in inputs.iter().enumerate() {
-            let draw = S::draw(&random, inputs.len());
-            let checked = self.suite.check(input, draw)?;
+        let Case { kind, inputs } = Case::<S>::of(self.plan.seed, case);
+        for (index, (input, draw)) in inputs.into_iter().enumerate() {
+            let checked = self.suite.check(&input, draw)?;
             if let Err(difference) = &checked.verdict {
                 println!("DIFFERENCE in case {case}, input {index} ({})", kind.name());
                 println!("{difference}");
-                self.save(case, index, input, &checked)?;
+                self.save(case, index, &input, &checked)?;
                 self.print_replay(case, index);
                 return Ok(false);
             }
             let Checked { records, more, .. } = checked;
-            self.counts.add(kind, input, records, &more);
+            self.counts.add(kind, &input, records, &more);
         }
         Ok(true)
     }
 
     /// Saves the inputs of a case, or one of them, with what should be printed and what is.
     fn replay(&mut self, case: u64, only: Option<u64>) -> io::Result<bool> {
-        let random = Random::of_case(self.plan.seed, case);
-        let kind = S::Kind::of_case(case);
-        let inputs = kind.inputs(&random);
+        let Case { kind, inputs } = Case::<S>::of(self.plan.seed, case);
         let mut passed = true;
-        for (index, input) in inputs.iter().enumerate() {
-            let draw = S::draw(&random, inputs.len());
+        for (index, (input, draw)) in inputs.into_iter().enumerate() {
             if only.is_some_and(|only| only != index as u64) {
                 continue;
             }
-            let checked = self.suite.check(input, draw)?;
+            let checked = self.suite.check(&input, draw)?;
             println!("input {index} ({}), {} bytes", kind.name(), input.len());
             let difference = checked.verdict.as_ref().err();
             println!("{}", difference.map_or("no difference", String::as_str));
-            self.save(case, index, input, &checked)?;
+            self.save(case, index, &input, &checked)?;
             passed &= checked.verdict.is_ok();
         }
         Ok(passed)

@@ -65,11 +65,4 @@ mod tests {
         assert_eq!(records_in("1 0 3 0\n> 0 0 00\n2 10 0 0\nend 1 1\n"), 2);
         assert_eq!(records_in("short\n"), 0);
     }
-
-    #[test]
-    fn every_kind_occurs_in_a_cycle() {
-        for kind in Kind::ALL {
-            assert!(Kind::ORDER.contains(kind), "{}", kind.name());
-        }
-    }
 }
