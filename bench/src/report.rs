@@ -5,11 +5,13 @@ use std::fs;
 use std::process::Command;
 
 use crate::growth::{self, Growth};
+use crate::tally;
 use crate::timing::{measure as time, Times};
 use crate::workload::{self, Session, Workload};
 
-/// What the proved library may take, for what the function tuned by hand takes.
+/// What the proved library may take, for what the function tuned by hand takes: for a record, and for a list of requests.
 const BAR: f64 = 1.1;
+const LIST_BAR: f64 = 1.5;
 
 pub struct Row {
     pub name: &'static str,
@@ -22,6 +24,7 @@ pub struct Measured {
     pub workloads: Vec<Row>,
     pub checks: Vec<Checks>,
     pub growth: Vec<Growth>,
+    pub lists: Vec<tally::Row>,
 }
 
 /// What a call costs that is refused after number 2, after number 4, and the mean of the session.
@@ -45,6 +48,7 @@ pub fn measure(rounds: usize) -> Measured {
             .map(|workload| checks(workload, rounds))
             .collect(),
         growth: growth::all(rounds),
+        lists: tally::all(rounds),
     }
 }
 
@@ -81,7 +85,8 @@ pub fn tables(measured: &Measured) -> String {
                 .growth
                 .iter()
                 .try_for_each(|growth| growth_table(&mut text, growth))
-        });
+        })
+        .and_then(|()| list_table(&mut text, &measured.lists));
     written.expect("a string can be written to");
     text
 }
@@ -121,8 +126,7 @@ fn workload_table(text: &mut String, rows: &[Row]) -> std::fmt::Result {
         let Times { proved, by_hand } = row.times;
         let ratio = row.times.ratio();
         let bar = match row.barred {
-            true if ratio <= BAR => "met",
-            true => "not met",
+            true => held(ratio, BAR),
             false => "",
         };
         writeln!(
@@ -132,6 +136,13 @@ fn workload_table(text: &mut String, rows: &[Row]) -> std::fmt::Result {
         )?;
     }
     writeln!(text)
+}
+
+fn held(ratio: f64, bar: f64) -> &'static str {
+    match ratio <= bar {
+        true => "met",
+        false => "not met",
+    }
 }
 
 fn check_table(text: &mut String, rows: &[Checks]) -> std::fmt::Result {
@@ -182,4 +193,25 @@ fn growth_table(text: &mut String, growth: &Growth) -> std::fmt::Result {
         "| `feed_fast` |{}\n",
         cells(&|(_, times)| format!("{:.0}", times.by_hand))
     )
+}
+
+fn list_table(text: &mut String, rows: &[tally::Row]) -> std::fmt::Result {
+    writeln!(text, "Microseconds for one list of requests as long as may be, and nanoseconds for one of its records.\n")?;
+    writeln!(text, "| List | records | `count` | `tally_fast` | a record in `count` | in `tally_fast` | ratio | bar |\n|---|--:|--:|--:|--:|--:|--:|---|")?;
+    for row in rows {
+        let Times { proved, by_hand } = row.times;
+        let ratio = row.times.ratio();
+        writeln!(
+            text,
+            "| {} | {:.0} | {:.1} | {:.1} | {:.2} | {:.2} | {ratio:.2} | {} |",
+            row.name,
+            row.records,
+            proved / 1000.0,
+            by_hand / 1000.0,
+            proved / row.records,
+            by_hand / row.records,
+            held(ratio, LIST_BAR),
+        )?;
+    }
+    writeln!(text)
 }

@@ -1,4 +1,4 @@
-//! Two monitors take turns on the same session, round after round, and the best round of each counts.
+//! The proved library and the function tuned by hand take turns on the same input, round after round, and the best round of each counts.
 
 use std::hint::black_box;
 use std::time::Instant;
@@ -7,9 +7,11 @@ use crate::workload::Session;
 
 /// A round repeats a session until it has about this many calls, so that reading the clock does not count.
 const CALLS: usize = 1000;
-/// Buffers begin at as many places in turn, a cache line apart and more, so that no monitor owes its time to where they lie.
+/// Buffers begin at as many places in turn, a cache line apart and more, so that neither owes its time to where they lie.
 const PLACES: usize = 16;
 const STRIDE: usize = 20;
+/// What a buffer has more, so that it can begin at each of the places.
+pub const SPARE: usize = PLACES * STRIDE;
 
 type Feed = fn(&[u32], &[u8], &mut [u32], &[u8], &mut [u8]) -> u32;
 
@@ -65,15 +67,27 @@ pub fn measure(sessions: &[Session], rounds: usize) -> Times {
 }
 
 fn best_of(session: &Session, rounds: usize) -> Times {
+    let mut room = Room::of(session);
+    take_turns(rounds, [proved as Feed, by_hand], |place, feed| {
+        room.place = place;
+        room.time(session, feed)
+    })
+}
+
+/// The best round of each of two. `time` does a round with one of them, with its buffers at a place, and tells how long that took.
+pub fn take_turns<F: Copy>(
+    rounds: usize,
+    [proved, by_hand]: [F; 2],
+    mut time: impl FnMut(usize, F) -> f64,
+) -> Times {
     let mut best = Times {
         proved: f64::MAX,
         by_hand: f64::MAX,
     };
-    let mut room = Room::of(session);
     for round in 0..rounds {
-        room.place = round % PLACES * STRIDE;
-        best.proved = best.proved.min(room.time(session, proved));
-        best.by_hand = best.by_hand.min(room.time(session, by_hand));
+        let place = round % PLACES * STRIDE;
+        best.proved = best.proved.min(time(place, proved));
+        best.by_hand = best.by_hand.min(time(place, by_hand));
     }
     best
 }
@@ -88,12 +102,11 @@ struct Room {
 
 impl Room {
     fn of(session: &Session) -> Room {
-        let spare = PLACES * STRIDE;
         Room {
             place: 0,
-            policy: vec![0; session.policy.len() + spare],
-            state: vec![0; session.state.len() + spare],
-            out: vec![0; zolherima::OUT_BYTES + spare],
+            policy: vec![0; session.policy.len() + SPARE],
+            state: vec![0; session.state.len() + SPARE],
+            out: vec![0; zolherima::OUT_BYTES + SPARE],
         }
     }
 
