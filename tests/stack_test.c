@@ -10,7 +10,7 @@
 
 #include "monitor.h"
 
-enum { STACK_BYTES = 65536, PAINT = 0x5a, MOST = 1024, SENDS = 0, REGISTERS = 1, WRITES = 2 };
+enum { STACK_BYTES = 64 * 1024, PAINT = 0x5a, MOST = 1024, SENDS = 0, REGISTERS = 1, WRITES = 2 };
 enum { STEPS = 32, STEP_BYTES = 4, KEYS = 8 };
 
 typedef struct monitor_answer feeds(const uint32_t *, size_t, const uint8_t *, size_t, uint32_t *, size_t, const uint8_t *, size_t, uint8_t *, size_t);
