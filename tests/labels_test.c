@@ -4,6 +4,7 @@
 #include <stdlib.h>
 
 #include "labels.h"
+#include "random.h"
 
 static bool bit(uint32_t set, uint32_t endpoint)
 {
@@ -38,16 +39,6 @@ static void compare_holds(uint32_t set, uint32_t endpoint)
         fprintf(stderr, "labels_holds(%08" PRIx32 ", %" PRIu32 ") is %d\n", set, endpoint, labels_holds(set, endpoint));
         exit(EXIT_FAILURE);
     }
-}
-
-/* xorshift32: the same sets in every run */
-static uint32_t next_random(void)
-{
-    static uint32_t x = 2463534242u;
-    x ^= x << 13;
-    x ^= x >> 17;
-    x ^= x << 5;
-    return x;
 }
 
 static void compare_set(uint32_t set)

@@ -7,6 +7,7 @@
 #include <string.h>
 
 #include "monitor.h"
+#include "random.h"
 
 /* Each buffer has this much more than is right: room for lengths that are too long, and past the length that is lent a canary. */
 enum { SPARE = 64, LONGEST = 255 };
@@ -303,16 +304,6 @@ static void null_pointers(void)
 }
 
 /* ---- random records */
-
-/* xorshift32: the same records in every run */
-static uint32_t next_random(void)
-{
-    static uint32_t x = 2463534242u;
-    x ^= x << 13;
-    x ^= x >> 17;
-    x ^= x << 5;
-    return x;
-}
 
 /* Sessions of policy P with random scripts. Records are mostly near good ones, so that many are accepted. */
 static void random_records(void)

@@ -7,6 +7,7 @@
 #include <stdlib.h>
 #include <string.h>
 
+#include "random.h"
 #include "usage.h"
 
 enum { DOCUMENT = 0x03, COOKIES = 0x04, SCRIPT = 0x0b };
@@ -349,16 +350,6 @@ static void longest(void)
 }
 
 /* ---- random lists */
-
-/* xorshift32: the same lists in every run */
-static uint32_t next_random(void)
-{
-    static uint32_t x = 2463534242u;
-    x ^= x << 13;
-    x ^= x >> 17;
-    x ^= x << 5;
-    return x;
-}
 
 static uint8_t below(uint32_t bound)
 {
