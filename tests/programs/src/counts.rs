@@ -78,20 +78,6 @@ fn add(to: &mut [u64], counts: &[u64]) {
 #[cfg(test)]
 mod tests {
     use super::*;
-    use cases::Random;
-
-    impl Kind for char {
-        const ALL: &'static [char] = &['a', 'b', 'c'];
-        const ORDER: &'static [char] = &['a', 'c', 'b', 'a'];
-
-        fn name(self) -> &'static str {
-            "a letter"
-        }
-
-        fn inputs(self, _: &Random) -> Vec<Vec<u8>> {
-            Vec::new()
-        }
-    }
 
     #[test]
     fn inputs_are_counted_by_kind() {
@@ -111,11 +97,5 @@ mod tests {
         counts.add('a', &[], 0, &[]);
         counts.add('c', &[], 0, &[]);
         assert_eq!(counts.missing().collect::<Vec<_>>(), ['b']);
-    }
-
-    #[test]
-    fn cases_go_through_the_kinds_in_their_order() {
-        let kinds: String = (0..6).map(char::of_case).collect();
-        assert_eq!(kinds, "acbaac");
     }
 }

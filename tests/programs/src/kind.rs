@@ -19,3 +19,28 @@ pub trait Kind: Copy + PartialEq + 'static {
         Self::ORDER[(case % Self::CYCLE) as usize]
     }
 }
+
+#[cfg(test)]
+mod tests {
+    use super::*;
+
+    /// Letters stand for kinds in the tests.
+    impl Kind for char {
+        const ALL: &'static [char] = &['a', 'b', 'c'];
+        const ORDER: &'static [char] = &['a', 'c', 'b', 'a'];
+
+        fn name(self) -> &'static str {
+            "a letter"
+        }
+
+        fn inputs(self, _: &Random) -> Vec<Vec<u8>> {
+            vec![vec![self as u8]]
+        }
+    }
+
+    #[test]
+    fn cases_go_through_the_kinds_in_their_order() {
+        let kinds: String = (0..6).map(char::of_case).collect();
+        assert_eq!(kinds, "acbaac");
+    }
+}

@@ -218,3 +218,77 @@ impl<S: Suite> Test<S> {
         );
     }
 }
+
+#[cfg(test)]
+mod tests {
+    use super::*;
+
+    /// Finds fault with one letter, and tells of events that did not occur.
+    struct Letters {
+        wrong: char,
+        missing: Vec<&'static str>,
+    }
+
+    impl Suite for Letters {
+        const NAME: &'static str = "letters";
+        const USAGE: &'static str = "";
+        const COLUMNS: &'static [Column] = &[];
+        const COVERING: (u64, &'static str) = (4, "letter");
+
+        type Kind = char;
+        type Draw = ();
+
+        fn draw(_: &Random, _: usize) {}
+
+        fn check(&mut self, input: &[u8], (): ()) -> io::Result<Checked> {
+            let right = input != [self.wrong as u8];
+            Ok(Checked {
+                verdict: right.then_some(()).ok_or("wrong".to_string()),
+                expected: String::new(),
+                found: Vec::new(),
+                records: 0,
+                more: Vec::new(),
+            })
+        }
+
+        fn missing(&self) -> Vec<&'static str> {
+            self.missing.clone()
+        }
+    }
+
+    fn passes(extent: Extent, missing: &[&'static str]) -> bool {
+        let mut test = Test {
+            suite: Letters {
+                wrong: 'x',
+                missing: missing.to_vec(),
+            },
+            program: String::new(),
+            plan: Plan { seed: 1, extent },
+            counts: Counts::new(&[]),
+        };
+        test.go().expect("nothing is run")
+    }
+
+    #[test]
+    fn what_did_not_occur_fails_the_test() {
+        assert!(passes(Extent::Cases(4), &[]));
+        assert!(!passes(Extent::Cases(4), &["an event"]));
+        let no_case = Extent::Seconds(0);
+        assert!(!passes(no_case, &[]));
+    }
+
+    #[test]
+    fn few_cases_need_not_have_everything() {
+        assert!(passes(Extent::Cases(3), &["an event"]));
+    }
+
+    #[test]
+    fn the_first_difference_is_found() {
+        let first = |wrong| {
+            let missing = Vec::new();
+            first_difference(&mut Letters { wrong, missing }, 4).expect("nothing is run")
+        };
+        assert_eq!(first('b'), Some("wrong".to_string()));
+        assert_eq!(first('x'), None);
+    }
+}
