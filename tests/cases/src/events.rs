@@ -1,12 +1,11 @@
 //! How a test tells at its end which events it has seen.
 
-/// Prints how many were seen, the rarest, and those that never were. Each comes with how often it was seen.
-pub fn print(events: &[(&str, u64)]) {
-    let never: Vec<&str> = events
-        .iter()
-        .filter(|(_, count)| *count == 0)
-        .map(|(name, _)| *name)
-        .collect();
+/// The name of an event, and how often it was seen.
+pub type Counted = (&'static str, u64);
+
+/// Prints how many were seen, the rarest, and those that never were.
+pub fn print(events: &[Counted]) {
+    let never = never_seen(events);
     let all = events.len();
     println!("events seen      {:>5} of {all:>3}", all - never.len());
     if let Some((name, count)) = events.iter().min_by_key(|(_, count)| count) {
@@ -15,4 +14,9 @@ pub fn print(events: &[(&str, u64)]) {
     for name in never {
         println!("never seen: {name}");
     }
+}
+
+pub fn never_seen(events: &[Counted]) -> Vec<&'static str> {
+    let never = events.iter().filter(|(_, count)| *count == 0);
+    never.map(|(name, _)| *name).collect()
 }

@@ -4,7 +4,7 @@ use std::panic::{catch_unwind, AssertUnwindSafe};
 
 use cases::difference::{Difference, Subject};
 use cases::guarded::Guarded;
-use cases::Random;
+use cases::{events, Random};
 use reference::layout::URLS;
 use reference::{tally_fast, tally_noting, Tally, TallyEvent, TallySeen};
 use zolherima::usage;
@@ -94,7 +94,7 @@ impl Checker {
     }
 
     /// Every event, and how often it was seen.
-    pub fn events(&self) -> Vec<(&'static str, u64)> {
+    pub fn events(&self) -> Vec<events::Counted> {
         let counted = |event: TallyEvent| (event.name(), self.seen.count(event));
         TallyEvent::ALL.into_iter().map(counted).collect()
     }

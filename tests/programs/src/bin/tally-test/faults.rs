@@ -110,18 +110,11 @@ fn a_wrong_count_is_told() {
         tally
     });
     assert_told(one_for_each_record, "cookies");
-    let urls = |tally: &Tally| tally.records.iter().filter(|count| **count > 0).count() as u32;
-    assert_told(
-        Box::new(move |list| {
-            let tally = honest(list);
-            let all_records = urls(&tally);
-            Tally {
-                all_records,
-                ..tally
-            }
-        }),
-        "all records",
-    );
+    let lines_counted = answering(|tally| Tally {
+        all_records: tally.records.iter().filter(|count| **count > 0).count() as u32,
+        ..tally
+    });
+    assert_told(lines_counted, "all records");
     let all_cookies = answering(|tally| Tally {
         all_cookies: tally.all_cookies.min(tally.all_records),
         ..tally
@@ -146,26 +139,15 @@ fn a_panic_is_told() {
     assert_told(Box::new(|_| panic!("as it should")), "panicked");
 }
 
-/// A program that does with a list what it should, and then something else.
-fn saying(change: fn(&[u8], Ran) -> Ran) -> Program {
-    Box::new(move |list, _| {
+/// The first difference that a few cases find with a program that does what it should, and then something else.
+fn told_of(change: impl Fn(&[u8], Ran) -> Ran + 'static) -> Option<String> {
+    let program: Program = Box::new(move |list, _| {
         let right = Ran {
             stdout: reference::tally_text(list).into(),
             stderr: Vec::new(),
             status: ExitStatus::from_raw(0),
         };
         Ok(change(list, right))
-    })
-}
-
-/// A program that prints another text.
-fn printing(text: fn(&[u8]) -> String) -> Option<String> {
-    let program: Program = Box::new(move |list, _| {
-        Ok(Ran {
-            stdout: text(list).into(),
-            stderr: Vec::new(),
-            status: ExitStatus::from_raw(0),
-        })
     });
     first_difference(Box::new(honest), Some(program))
 }
@@ -182,11 +164,7 @@ fn lines(list: &[u8], change: impl Fn(&mut Vec<String>)) -> String {
 
 #[test]
 fn an_honest_program_is_passed() {
-    let honest_program = saying(|_, ran| ran);
-    assert_eq!(
-        first_difference(Box::new(honest), Some(honest_program)),
-        None
-    );
+    assert_eq!(told_of(|_, ran| ran), None);
 }
 
 #[test]
@@ -202,25 +180,27 @@ fn a_wrong_text_is_told() {
         |list| lines(list, |lines| lines.reverse()),
     ];
     for (index, text) in wrong.into_iter().enumerate() {
-        let told = printing(text).unwrap_or_else(|| panic!("text {index} is passed"));
+        let told = told_of(move |list, ran| Ran {
+            stdout: text(list).into(),
+            ..ran
+        });
+        let told = told.unwrap_or_else(|| panic!("text {index} is passed"));
         assert!(told.starts_with("line "), "{told}");
     }
 }
 
 #[test]
 fn status_and_standard_error_are_told() {
-    let failing = saying(|_, ran| Ran {
+    let failing = told_of(|_, ran| Ran {
         status: ExitStatus::from_raw(13 << 8),
         ..ran
     });
-    let told = first_difference(Box::new(honest), Some(failing));
-    assert_eq!(told.as_deref(), Some("ended with exit status: 13"));
-    let complaining = saying(|list, ran| Ran {
+    assert_eq!(failing.as_deref(), Some("ended with exit status: 13"));
+    let complaining = told_of(|list, ran| Ran {
         stderr: list.to_vec(),
         ..ran
     });
-    let told = first_difference(Box::new(honest), Some(complaining));
-    assert!(told.is_some_and(|told| told.starts_with("wrote to standard error")));
+    assert!(complaining.is_some_and(|told| told.starts_with("wrote to standard error")));
 }
 
 /// Programs that are everywhere: one prints nothing, one its input, one fails.

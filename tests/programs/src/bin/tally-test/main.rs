@@ -75,11 +75,7 @@ impl Suite for Tallies {
     }
 
     fn missing(&self) -> Vec<&'static str> {
-        let events = self.checker.events().into_iter();
-        events
-            .filter(|(_, count)| *count == 0)
-            .map(|(name, _)| name)
-            .collect()
+        events::never_seen(&self.checker.events())
     }
 }
 
