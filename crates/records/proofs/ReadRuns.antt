@@ -1,18 +1,52 @@
 -- The run of records that bytes are, one by one: the first of them, and the run of what follows it.
 use Rattle.prelude.proofs.Kit.{ℕ, _≤_, _<_, _+_, _-_, suc, zero, arith, List, _∷_, [], _≡_, sym, _∙_, refl, ap, ne-eqb, eqb, length, take, drop}
-use Rattle.prelude.proofs.Kit.{length-append, length-drop, take-all, ℕ-discrete, true, false, Bool, cond, true≢false}
+use Rattle.prelude.proofs.Kit.{length-append, length-drop, take-all, ℕ-discrete, true, false, Bool, _&&_, _||_, cond, true≢false, subst, T, ltb, ltb→lt, and-l, and-r}
+use borrow.Author.Tests.{eqb-true}
 use lib.ListN.{take-append-drop}
 use Rattle.prelude.specs.Refusals.{accepted}
 use Rattle.records.specs.declared.Direction.{Direction}
+use Rattle.records.specs.declared.Direction.the-variants.{Request}
+use Rattle.records.specs.declared.Decoded.{Decoded}
 use Rattle.records.specs.declared.Record.{Record}
 use Rattle.records.specs.declared.First.{First}
-use Rattle.records.specs.Layout.{size}
-use Rattle.records.specs.Codec.{mapOf, keysOf, decoded, firstRecord, decodedFirst, Run, readAtMost, readRun}
-use Rattle.records.proofs.Decoding.{known}
+use Rattle.records.specs.Bytes.{bit}
+use Rattle.records.specs.Layout.{maps, sum, size}
+use Rattle.records.specs.Codec.{isOneOf, mapOf, keysOf, decoded, firstRecord, decodedFirst, Run, readAtMost, readRun}
+use Rattle.records.specs.Places.{cookieWidths}
+use Rattle.records.proofs.Values.{same-keys}
+use Rattle.records.proofs.Decoding.{known, right-length, decoded-accepted}
+use Rattle.records.proofs.Writing.{size-split, front-end}
 
 -- the bytes from a place on, as a caller lends them
 pub rest-is : (bytes : List ℕ) (from : ℕ) → take (length bytes - from) (drop from bytes) ≡ drop from bytes
 rest-is bytes from = take-all (length bytes - from) (drop from bytes) (omega (arith, length-drop from bytes))
+
+-- ---- how long a request is
+
+-- every map of a list has URL and connection
+fronts : List ℕ → Bool
+fronts [] = true
+fronts (m ∷ ms) = ltb 1 (bit m 0 + bit m 1) && fronts ms
+
+has-front : (ms : List ℕ) (m : ℕ) → T (fronts ms) → isOneOf m ms ≡ true → 2 ≤ bit m 0 + bit m 1
+unfolding isOneOf fronts
+has-front [] m t e = absurd (true≢false (sym e))
+has-front (k ∷ ms) m t e = go (eqb m k) refl (has-front ms m (and-r (ltb 1 (bit k 0 + bit k 1)) (fronts ms) t)) e
+  where
+    here : 2 ≤ bit k 0 + bit k 1
+    here = ltb→lt 1 (bit k 0 + bit k 1) (and-l (ltb 1 (bit k 0 + bit k 1)) (fronts ms) t)
+
+    go : (b : Bool) → eqb m k ≡ b → (isOneOf m ms ≡ true → 2 ≤ bit m 0 + bit m 1) → b || isOneOf m ms ≡ true → 2 ≤ bit m 0 + bit m 1
+    go true q rest e = subst (λ (n : ℕ). 2 ≤ bit n 0 + bit n 1) (sym (eqb-true m k q)) here
+    go false q rest e = rest e
+
+-- map, URL and connection, and the cookies that it carries
+request-size : (bytes : List ℕ) → decoded Request bytes .number ≡ accepted → 3 + sum (cookieWidths (decoded Request bytes .fields .keys)) ≤ length bytes
+unfolding decoded fronts
+request-size bytes ok =
+    let m = mapOf bytes in
+    let keys : decoded Request bytes .fields .keys ≡ keysOf bytes = ap (λ (d : Decoded). d .fields .keys) (decoded-accepted Request bytes ok) ∙ same-keys bytes in
+    rw keys (omega (arith, has-front (maps Request) m tt (known Request bytes ok .1), right-length Request bytes ok, size-split m (keysOf bytes), front-end m (keysOf bytes)))
 
 -- a record, and a run after it
 abbrev pub followed : Record → Run → Run
@@ -121,3 +155,9 @@ module _ (d : Direction) where
   pub run-few : (bytes : List ℕ) → length (readRun d bytes .records) ≤ length bytes
   unfolding readRun
   run-few bytes = read-few (length bytes) bytes
+
+-- the first of some requests
+pub first-size : (bytes : List ℕ) → decodedFirst Request bytes .number ≡ accepted
+    → 3 + sum (cookieWidths (decodedFirst Request bytes .fields .keys)) ≤ decodedFirst Request bytes .length
+unfolding decodedFirst
+first-size bytes ok = omega (arith, first-long Request bytes ok, request-size (firstRecord bytes) ok)

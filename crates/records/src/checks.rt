@@ -31,8 +31,11 @@ pub fn is_map(direction: Direction, map: u8) -> bool
     }
 }
 
-// The longest records have the map byte, URL, connection, and cookies with every key; an input then has a value, and a request a handler.
+// Every record begins with the map byte, URL and connection. The longest go on with cookies of every key; an input then has a value, and a
+// request a handler.
 const FRONT: usize = 3;
+
+pub const SHORTEST_REQUEST: usize = FRONT;
 
 const ALL_COOKIES: usize = 1 + 4 * 8;
 

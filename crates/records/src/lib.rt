@@ -11,6 +11,7 @@ mod places;
 
 pub use checks::LONGEST_INPUT;
 pub use checks::LONGEST_REQUEST;
+pub use checks::SHORTEST_REQUEST;
 use checks::carriable;
 use checks::longest;
 use fields::read;

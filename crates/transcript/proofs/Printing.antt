@@ -4,12 +4,12 @@ use Rattle.prelude.proofs.Kit.{length-append, length-drop, drop-drop}
 use Rattle.prelude.specs.Refusals.{accepted}
 use Rattle.records.specs.declared.Direction.the-variants.{Request}
 use Rattle.records.specs.declared.First.{First}
-use Rattle.records.proofs.ReadRuns.{first-bytes}
+use Rattle.records.proofs.ReadRuns.{first-bytes, first-size}
 use Rattle.text.specs.Text.{space, newline, decimal, hex, Wrote}
 use Rattle.transcript.specs.Lines.{requestLine, sentLines}
 use Rattle.text.proofs.Decimals.{byte-room}
 use Rattle.text.proofs.Writing.{Writing, writing-begins, writing-goes-on, writing-ends}
-use Rattle.transcript.proofs.Requests.{firstRequest, lineOf, first-three, lines-more}
+use Rattle.transcript.proofs.Requests.{firstRequest, lineOf, lines-more}
 
 line-short : (url connection keys : ℕ) → url < 256 → connection < 256 → length (requestLine url connection keys) ≤ 13
 line-short url connection keys u c =
@@ -44,7 +44,7 @@ module _ {before : List ℕ} {start : ℕ} {sent : List ℕ} where
       pub request-bytes : (3 ≤ d .length) × (from + d .length ≤ length sent)
       request-bytes =
           let size = ap (λ (r : First). r .length) read in
-          let long = first-three (drop from sent) first-ok in
+          let long = first-size (drop from sent) first-ok in
           (omega (arith, size, long), omega (arith, size, long, first-bytes Request (drop from sent) first-ok .1, length-drop from sent))
 
       -- it has at least 3 bytes, so there is room for the 13 of its line

@@ -9,8 +9,9 @@ use Rattle.prelude.proofs.Choices.{keep-short}
 use Rattle.records.specs.declared.Direction.the-variants.{Request}
 use Rattle.records.specs.declared.Record.{Record}
 use Rattle.records.specs.Bytes.{bit}
-use Rattle.records.specs.Layout.{keyNumbers, sum}
+use Rattle.records.specs.Layout.{keyNumbers, widths, sum}
 use Rattle.records.specs.Codec.{readRun}
+use Rattle.records.specs.Places.{cookieWidths}
 use Rattle.records.proofs.Starts.{ones-keys}
 use Rattle.records.proofs.ReadRuns.{run-few}
 use Rattle.machine.specs.Session.{has, Cookie}
@@ -39,6 +40,16 @@ kept-bits keys (k ∷ ks) = go (bit keys k) (omega arith) (kept-bits keys ks)
 
 pub ones-carried : (r : Record) → r .keys < 256 → ones (r .keys) ≡ carried r
 ones-carried r h = ones-keys (r .keys) h ∙ sym (keys-kept r ∙ kept-bits (r .keys) keyNumbers)
+
+-- where no values are carried there is no cookie
+no-bits : (a b c d e f g h : ℕ) → sum (4 * a ∷ 4 * b ∷ 4 * c ∷ 4 * d ∷ 4 * e ∷ 4 * f ∷ 4 * g ∷ 4 * h ∷ []) ≡ 0 → sum (a ∷ b ∷ c ∷ d ∷ e ∷ f ∷ g ∷ h ∷ []) ≡ 0
+no-bits a b c d e f g h none = omega arith
+
+pub none-carried : (r : Record) → sum (cookieWidths (r .keys)) ≡ 0 → carried r ≡ 0
+unfolding cookieWidths widths
+none-carried r none =
+    let k = r .keys in
+    keys-kept r ∙ kept-bits k keyNumbers ∙ no-bits (bit k 0) (bit k 1) (bit k 2) (bit k 3) (bit k 4) (bit k 5) (bit k 6) (bit k 7) none
 
 few-carried : (r : Record) → carried r ≤ 8
 few-carried r = omega (arith, keys-kept r, keep-short (has (r .keys)) keyNumbers)

@@ -13,12 +13,12 @@ use Rattle.records.specs.declared.Direction.the-variants.{Request}
 use Rattle.records.specs.declared.First.{First}
 use Rattle.records.specs.declared.Record.{Record}
 use Rattle.records.specs.Codec.{decodedFirst, Run, readRun}
-use Rattle.records.proofs.ReadRuns.{followed, nothing, first-bytes, run-end, run-none, run-more}
+use Rattle.records.proofs.ReadRuns.{followed, nothing, first-bytes, first-size, run-end, run-none, run-more}
 use Rattle.machine.specs.Policy.{urlRows, isConnection}
 use Rattle.machine.specs.Scripts.{isScript}
 use Rattle.usage.specs.Tally.{requestsTo, urls, inRange, allInRange, good}
 use Rattle.usage.proofs.Weights.{weight, one, to-it, to-another, part-weighs}
-use Rattle.usage.proofs.Carried.{carried, records-weigh, cookies-weigh}
+use Rattle.usage.proofs.Carried.{carried, none-carried, records-weigh, cookies-weigh}
 
 module _ (w : Record → ℕ) where
   -- of the requests of a list, `rest` are still to be counted
@@ -59,6 +59,18 @@ module _ (w : Record → ℕ) where
         go u l false e =
             let other = getD-set-other counts (r .url) u (getD counts (r .url) 0 + w r) 0 (λ q. true≢false (sym (eq-eqb (r .url) u (sym q)) ∙ e)) in
             omega (arith, other, c .each u l, to-another w r rest u e)
+
+  -- a request that weighs nothing may be passed over
+  counted-passes : {all rest : List Record} {r : Record} {counts : List ℕ} {total : ℕ} → w r ≡ 0 → Counted all (r ∷ rest) counts total → Counted all rest counts total
+  counted-passes {all} {rest} {r} {counts} {total} none c = record {
+    rows = c .rows;
+    each = λ u l. go u l (eqb (r .url) u) refl;
+    whole = omega (arith, c .whole, none);
+  }
+    where
+      go : (u : ℕ) → u < urlRows → (b : Bool) → eqb (r .url) u ≡ b → getD counts u 0 + weight w (requestsTo u rest) ≡ weight w (requestsTo u all)
+      go u l true e = omega (arith, c .each u l, to-it w r rest u e, none)
+      go u l false e = omega (arith, c .each u l, to-another w r rest u e)
 
   pub counted-ends : {all : List Record} {counts : List ℕ} {total : ℕ} → Counted all [] counts total
       → (counts ≡ map (λ u. weight w (requestsTo u all)) urls) × (total ≡ weight w all)
@@ -134,6 +146,13 @@ module _ {requests : List ℕ} where
           let bytes = first-bytes Request left first-ok in
           (omega (arith, size, bytes .0), omega (arith, size, bytes .0, bytes .1, length-drop from requests))
 
+      -- the shortest request carries no cookies
+      shortest-carries-none : d .length ≡ 3 → carried (d .fields) ≡ 0
+      shortest-carries-none e =
+          let keys = ap (λ (r : First). r .fields .keys) read in
+          let size = ap (λ (r : First). r .length) read in
+          none-carried (d .fields) (rw keys (omega (arith, e, size, first-size left first-ok)))
+
       good-next : good (readRun Request requests) ≡ eqb (length (readRun Request rest .left)) 0 && (inRange (d .fields) && allInRange (readRun Request rest .records))
       unfolding good allInRange
       good-next = sym (c .same) ∙ ap good next
@@ -166,6 +185,16 @@ module _ {requests : List ℕ} where
             let few = records-weigh requests in
             let most = cookies-weigh requests in
             (omega (arith, r .0, few), omega (arith, k .0, most), omega (arith, r .1, few), omega (arith, k .1, most))
+
+        pub counting-passes : d .length ≡ 3
+            → Counting requests (set byUrl (d .fields .url) (getD byUrl (d .fields .url) 0 + 1)) carriedByUrl (allRecords + 1) allCookies (from + 3)
+        unfolding rest good
+        counting-passes short = subst (λ (n : ℕ). Counting requests (set byUrl (d .fields .url) (getD byUrl (d .fields .url) 0 + 1)) carriedByUrl (allRecords + 1) allCookies (from + n)) short (record {
+          below = bytes-next .1;
+          same = sym (good-next ∙ rw e);
+          records = counted-goes-on one records-left url-next;
+          cookies = counted-passes carried (shortest-carries-none short) cookies-left;
+        })
 
         pub counting-goes-on :
             Counting requests

@@ -1,10 +1,13 @@
 // The tally of requests (document 01, "A tally of requests"): which URLs were requested, how often, and with how many cookies.
 ghost use mathlib.Core.Path.{_≡_};
-ghost use Rattle.usage.specs.Tally.{inRange, refused, tallied};
+ghost use Prim.Native.Nat.{_≤_};
+ghost use lib.ListN.{length};
+ghost use Rattle.usage.specs.Tally.{inRange, listBytes, refused, tallied};
 use policy::words::CONNECTIONS;
 use policy::words::URL_ROWS;
 use records::Direction;
 use records::Record;
+use records::SHORTEST_REQUEST;
 use session::pending::SCRIPTS;
 
 // The longest list that is counted.
@@ -44,14 +47,11 @@ fn in_range(request: Record) -> bool
         & ((request.script as usize) < SCRIPTS)
 }
 
-// Counts a list of request records one right after another: include/usage.h. Every length and content is answered.
-#[no_mangle]
-pub extern "C" fn usage_count(requests: &[u8]) -> Tally
+// Counts a list that is not too long. The first bytes that are not a request in range refuse it.
+fn count(requests: &[u8]) -> Tally
+    requires { ⌜ length (now requests) ≤ listBytes ⌝ }
     ensures { λ r. ⌜ r ≡ tallied (now (requests .entry)) ⌝ }
 {
-    if LIST_BYTES < requests.len() {
-        return refused(LIST_BAD);
-    }
     let mut by_url = [0u32; URL_ROWS];
     let mut carried_by_url = [0u32; URL_ROWS];
     let mut all_records = 0u32;
@@ -67,10 +67,15 @@ pub extern "C" fn usage_count(requests: &[u8]) -> Tally
             return refused(LIST_BAD);
         }
         let url = fields.url as usize;
-        let carried = records::count_keys(fields.keys) as u32;
         by_url[url] = by_url[url] + 1;
-        carried_by_url[url] = carried_by_url[url] + carried;
         all_records = all_records + 1;
+        // Such a request carries no cookies. Passed by a constant, it need not be measured before the next one is read.
+        if request.length == SHORTEST_REQUEST {
+            from = from + SHORTEST_REQUEST;
+            continue;
+        }
+        let carried = records::count_keys(fields.keys) as u32;
+        carried_by_url[url] = carried_by_url[url] + carried;
         all_cookies = all_cookies + carried;
         from = from + request.length;
     }
@@ -81,4 +86,15 @@ pub extern "C" fn usage_count(requests: &[u8]) -> Tally
         all_records,
         all_cookies,
     }
+}
+
+// Counts a list of request records one right after another: include/usage.h. Every length and content is answered.
+#[no_mangle]
+pub extern "C" fn usage_count(requests: &[u8]) -> Tally
+    ensures { λ r. ⌜ r ≡ tallied (now (requests .entry)) ⌝ }
+{
+    if LIST_BYTES < requests.len() {
+        return refused(LIST_BAD);
+    }
+    count(requests)
 }

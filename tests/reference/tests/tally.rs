@@ -97,7 +97,7 @@ fn bad_anywhere(record: &[u8]) {
 
 #[test]
 fn numbers_of_the_document() {
-    assert_eq!(LIST_BYTES, 65_536);
+    assert_eq!(LIST_BYTES, 1 << 16);
     assert_eq!(LIST_BAD, 13);
 }
 
@@ -313,10 +313,10 @@ fn a_document_has_no_handler() {
 fn the_longest_list_of_short_requests() {
     prints(&DOCUMENT.repeat(21_845), "0 21845 0\nall 21845 0\n");
     let list = [DOCUMENT.repeat(21_844), SCRIPT.to_vec()].concat();
-    assert_eq!(list.len(), 65_536);
+    assert_eq!(list.len(), LIST_BYTES);
     prints(&list, "0 21845 0\nall 21845 0\n");
     let list = [DOCUMENT.repeat(21_843), SCRIPT.repeat(2)].concat();
-    assert_eq!(list.len(), 65_537);
+    assert_eq!(list.len(), LIST_BYTES + 1);
     bad(&list, TallyEvent::TooLong);
 }
 
@@ -325,7 +325,7 @@ fn the_longest_list_of_short_requests() {
 fn the_longest_list_of_most_cookies() {
     let three = [&[0x07, 6, 0, 0x07][..], &[0; 12]].concat();
     let list = [document_8().repeat(1_820), three].concat();
-    assert_eq!(list.len(), 65_536);
+    assert_eq!(list.len(), LIST_BYTES);
     prints(&list, "5 1820 14560\n6 1 3\nall 1821 14563\n");
 }
 
@@ -334,9 +334,9 @@ fn the_longest_list_of_most_cookies() {
 #[test]
 fn one_byte_or_more_above_the_longest() {
     let list = [script_8().repeat(1_771), DOCUMENT.repeat(3)].concat();
-    assert_eq!(list.len(), 65_536);
+    assert_eq!(list.len(), LIST_BYTES);
     prints(&list, "0 3 0\n5 1771 14168\nall 1774 14168\n");
-    for more in [1, 3, 65_536, 1 << 20] {
+    for more in [1, 3, LIST_BYTES, 1 << 20] {
         let list = [&list[..], &DOCUMENT.repeat(more)[..more]].concat();
         bad(&list, TallyEvent::TooLong);
     }
