@@ -22,6 +22,7 @@ fn tally(rows: &[(usize, u32, u32)]) -> Tally {
     tally
 }
 
+const ALL: u32 = u32::MAX;
 const PLAIN: [u8; 3] = [0x03, 63, 31];
 
 #[test]
@@ -81,27 +82,43 @@ fn a_bad_list_has_its_number_and_its_words() {
     assert!(error.to_string().starts_with("the list is "), "{error}");
 }
 
-/// One URL, https at host 0, on connection 0; everybody may learn of it and of its cookie of key 0.
-#[test]
-fn what_a_session_sends_is_counted() {
+/// The front page's session A: URL 0 is http at host 0, URLs 1 and 2 are http and https at host 1. Script 1 stores 9 in host 0's cookie and
+/// requests URL 0 on connection 0; script 2 requests URL 1 on connection 1.
+fn front_page() -> ([u32; POLICY_WORDS], [u8; SCRIPT_BYTES]) {
     let mut policy = [0; POLICY_WORDS];
     for url in policy[..192].chunks_exact_mut(3) {
         url.copy_from_slice(&NO_URL);
     }
-    policy[..3].copy_from_slice(&[16, u32::MAX, u32::MAX]);
-    policy[192..194].copy_from_slice(&[u32::MAX, u32::MAX]);
-    policy[448..451].copy_from_slice(&[u32::MAX; 3]);
-    let (scripts, mut state, mut out) = ([0; SCRIPT_BYTES], [0; STATE_WORDS], [0; OUT_BYTES]);
-    let mut requests = Vec::new();
-    let records: [&[u8]; 4] = [
+    policy[..3].copy_from_slice(&[0, 0x0000_0001, ALL]);
+    policy[3..6].copy_from_slice(&[1, ALL, ALL]);
+    policy[6..9].copy_from_slice(&[17, ALL, ALL]);
+    policy[192..194].copy_from_slice(&[0x0000_0001, 0x0000_0001]);
+    policy[208..212].copy_from_slice(&[0x0000_0002, 0x0002_0003, 0x0002_0000, 0x0002_0003]);
+    policy[448..451].copy_from_slice(&[0x0000_0001; 3]);
+    policy[451..454].copy_from_slice(&[0x0002_0003; 3]);
+    let mut scripts = [0; SCRIPT_BYTES];
+    scripts[128..140].copy_from_slice(&[1, 1, 0, 9, 4, 0, 1, 0, 5, 0, 0, 0]);
+    scripts[256..260].copy_from_slice(&[5, 1, 1, 0]);
+    (policy, scripts)
+}
+
+/// What that session sends is the list that the example counts, byte for byte.
+#[test]
+fn the_example_is_what_a_session_sent() {
+    let (policy, scripts) = front_page();
+    let (mut state, mut out) = ([0; STATE_WORDS], [0; OUT_BYTES]);
+    let mut sent = Vec::new();
+    let records: [&[u8]; 5] = [
+        &[0x03, 1, 1],
         &[0x03, 0, 0],
-        &[0x0f, 0, 0, 0x01, 0, 0, 0, 7, 0],
-        &[0x03, 0, 0],
-        &[0x03, 0, 0],
+        &[0x0b, 0, 0, 1],
+        &[0x0f, 1, 1, 0x03, 0, 0, 0, 7, 0, 0, 0, 8, 2],
+        &[0x03, 2, 1],
     ];
     for record in records {
         let accepted = feed(&policy, &scripts, &mut state, record, &mut out).expect("accepted");
-        requests.extend_from_slice(&out[..accepted.bytes]);
+        sent.extend_from_slice(&out[..accepted.bytes]);
     }
-    assert_eq!(count(&requests), Ok(tally(&[(0, 3, 2)])));
+    assert_eq!(sent, include_bytes!("../../../crates/tally/stdin"));
+    assert_eq!(count(&sent), Ok(tally(&[(0, 2, 1), (1, 2, 1), (2, 1, 1)])));
 }
