@@ -1,5 +1,5 @@
 -- The laws of the first refusal that applies.
-use Rattle.prelude.proofs.Kit.{ℕ, suc, zero, true, _&&_, Bool, false, not, true≢false, List, _∷_, [], _++_, _≡_, sym, refl, ap}
+use Rattle.prelude.proofs.Kit.{ℕ, suc, zero, true, _&&_, Bool, false, not, true≢false, cond, List, _∷_, [], _++_, _≡_, sym, refl, ap}
 use Rattle.prelude.proofs.Kit.{subst, T, eqb, ltb, eqb·suc-zero, take, getD, and-r, and-l}
 use Rattle.prelude.specs.Choice.{branch}
 use Rattle.prelude.specs.Refusals.{accepted, Refusal, refuse, firstOf}
@@ -60,6 +60,12 @@ refused-on (r ∷ rs) y other = go (r .applies) other (refused-on rs y)
         → branch b (r .answer) (firstOf rs y) ≡ branch b (r .answer) (firstOf rs accepted)
     go true other rest = refl
     go false other rest = rest other
+
+-- an answer that goes by its number has that number
+pub number-of : {A : Type 0} (number : A → ℕ) (done : A) (undone : ℕ → A) (n : ℕ) → number done ≡ accepted → number (undone n) ≡ n
+    → number (cond (eqb n accepted) done (undone n)) ≡ n
+number-of number done undone zero e f = e
+number-of number done undone (suc n) e f = rw (eqb·suc-zero n) f
 
 -- and goes on past a test that passes
 pub accepted-past : (n : ℕ) (b : Bool) (rs : List (Refusal ℕ)) → T (ltb 0 n) → eqb (firstOf (refuse n (not b) ∷ rs) accepted) accepted ≡ b && eqb (firstOf rs accepted) accepted

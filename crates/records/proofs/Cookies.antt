@@ -1,6 +1,6 @@
 -- The loops over the eight keys: what remains to be done from a key on, with the laws of its first key and of the rest.
-use Rattle.prelude.proofs.Kit.{ℕ, _≤_, _<_, _+_, suc, _^_, zero, _*_, add-zero, zero-add, le-of-suc-le-suc, not-suc-le-zero, add-one, arith}
-use Rattle.prelude.proofs.Kit.{_&&_, and-assoc, and-true, List, _∷_, [], _++_, map, append-assoc, append-nil, _≡_, sym, _∙_, refl, ap}
+use Rattle.prelude.proofs.Kit.{ℕ, _≤_, _<_, _+_, suc, _^_, _*_, zero-add, add-one, arith}
+use Rattle.prelude.proofs.Kit.{_&&_, and-assoc, and-true, List, _∷_, _++_, append-assoc, append-nil, _≡_, sym, _∙_, refl, ap}
 use Rattle.prelude.proofs.Kit.{bitOr, eqb, ltb, length, take, drop, getD, set, length-set, sets, take-all, drop-drop, drop-cons}
 use lib.Seq.{take-suc-set, length-sets}
 use Rattle.prelude.proofs.Bits.{or-zero}

@@ -1,16 +1,16 @@
 -- What a heading says of decoding, and that the first record of some bytes has the heading of the bytes.
 use Rattle.prelude.proofs.Kit.{ℕ, _≤_, _<_, _+_, suc, zero, not-suc-le-zero, le-of-suc-le-suc, arith, true, false, Bool, _&&_, List, _∷_, []}
-use Rattle.prelude.proofs.Kit.{_≡_, sym, _∙_, refl, ap, ap₂, T, eqb, ltb, eqb→eq, length, take, drop, and-l, ne-eqb, lt-ltb, ℕ-discrete, subst}
+use Rattle.prelude.proofs.Kit.{_≡_, sym, _∙_, refl, ap, ap₂, T, eqb, ltb, eqb→eq, length, take, drop, and-l, ne-eqb, lt-ltb, subst}
 use Rattle.prelude.proofs.Kit.{zero-lt-suc, eqb·suc-zero, take-all, length-take-le}
 use Prim.Native.Nat.{compare·suc-suc}
 use mathlib.Core.Bool.{and-false}
 use Rattle.prelude.specs.Refusals.{accepted, firstOf}
-use Rattle.prelude.proofs.Refusals.{NoneOf, nth, first-is, none-applies, none-applied, in-a-row, refused-on}
+use Rattle.prelude.proofs.Refusals.{NoneOf, nth, first-is, none-applies, none-applied, in-a-row, refused-on, number-of}
 use Rattle.records.specs.declared.Direction.{Direction}
 use Rattle.records.specs.declared.heading.Heading.{Heading}
 use Rattle.records.specs.Bytes.{bit, number}
-use Rattle.records.specs.Layout.{cookiesBit, maps, start, keyMapAt, widths, size}
-use Rattle.records.specs.Codec.{cutOrTooLong, refused, isOneOf, noKeySet, mapOf, keysOf, mapUnknown, keysZero, lengthOther, readRefusals, readRefusal, fieldsOf, decoded, firstRecord, first, decodedFirst}
+use Rattle.records.specs.Layout.{cookiesBit, start, keyMapAt, widths, size}
+use Rattle.records.specs.Codec.{cutOrTooLong, refused, noKeySet, mapOf, keysOf, mapUnknown, keysZero, readRefusals, readRefusal, fieldsOf, decoded, firstRecord, first, decodedFirst}
 use Rattle.records.specs.Heading.{unread, heading, mapRefusals, headingOf}
 use Rattle.records.proofs.Decoding.{refused-by, length-other, length-right, decoded-accepted}
 use Rattle.records.proofs.Slices.{number-none}
@@ -30,10 +30,7 @@ module _ (d : Direction) (bytes : List ℕ) where
 
   number-is : headingOf d bytes .number ≡ firstOf (mapRefusals d bytes) accepted
   unfolding headingOf
-  number-is = elim (ℕ-discrete (firstOf (mapRefusals d bytes) accepted) accepted) [
-    | yes e ↦ rw e
-    | no ne ↦ rw (ne-eqb (firstOf (mapRefusals d bytes) accepted) accepted ne)
-  ]
+  number-is = number-of (λ (h : Heading). h .number) (heading (mapOf bytes) (keysOf bytes)) unread (firstOf (mapRefusals d bytes) accepted) refl refl
 
   -- what the maps refuse decoding refuses
   pub refuses : (headingOf d bytes .number ≡ accepted → ⊥) → refused (headingOf d bytes .number) ≡ decoded d bytes
@@ -56,9 +53,9 @@ module _ (d : Direction) (bytes : List ℕ) where
     pub other-length : (length bytes ≡ size (mapOf bytes) (keysOf bytes) → ⊥) → refused cutOrTooLong ≡ decoded d bytes
     other-length ne = refused-by d bytes 2 (passed .0, (passed .1 .0, tt)) (length-other d bytes ne) refl
 
-    pub right-length : length bytes ≡ size (mapOf bytes) (keysOf bytes) → record { number = accepted; fields = fieldsOf bytes } ≡ decoded d bytes
+    pub whole-length : length bytes ≡ size (mapOf bytes) (keysOf bytes) → record { number = accepted; fields = fieldsOf bytes } ≡ decoded d bytes
     unfolding readRefusal
-    right-length e =
+    whole-length e =
         sym (decoded-accepted d bytes (none-applies accepted (readRefusals d bytes) (passed .0, (passed .1 .0, (length-right d bytes e, tt)))))
 
 -- a record that carries no cookies: its key map reads as 0, and is not one of zero
@@ -136,9 +133,9 @@ module _ (bytes : List ℕ) where
       go (suc n) [] h = refl
       go (suc n) (x ∷ l) h = eqb·suc-zero (length (take n l)) ∙ sym (eqb·suc-zero (length l))
 
-  key-map-there : bit (mapOf bytes) cookiesBit ≡ 1 → ltb (keyMapAt (mapOf bytes)) (length (firstRecord bytes)) ≡ ltb (keyMapAt (mapOf bytes)) (length bytes)
+  key-map-in-front : bit (mapOf bytes) cookiesBit ≡ 1 → ltb (keyMapAt (mapOf bytes)) (length (firstRecord bytes)) ≡ ltb (keyMapAt (mapOf bytes)) (length bytes)
   unfolding firstRecord
-  key-map-there e = there-front called (keyMapAt (mapOf bytes)) bytes (omega (arith, e, room .1))
+  key-map-in-front e = there-front called (keyMapAt (mapOf bytes)) bytes (omega (arith, e, room .1))
 
   first-unknown : (d : Direction) → mapUnknown d (firstRecord bytes) ≡ mapUnknown d bytes
   unfolding mapUnknown
@@ -151,16 +148,16 @@ module _ (bytes : List ℕ) where
       go : (b : Bool) → noKeySet (mapOf bytes) (keysOf bytes) ≡ b
           → ltb (keyMapAt (mapOf bytes)) (length (firstRecord bytes)) && b ≡ ltb (keyMapAt (mapOf bytes)) (length bytes) && b
       go false e = and-false (ltb (keyMapAt (mapOf bytes)) (length (firstRecord bytes))) ∙ sym (and-false (ltb (keyMapAt (mapOf bytes)) (length bytes)))
-      go true e = ap (λ (b : Bool). b && true) (key-map-there (carries-cookies (mapOf bytes) (keysOf bytes) e))
+      go true e = ap (λ (b : Bool). b && true) (key-map-in-front (carries-cookies (mapOf bytes) (keysOf bytes) e))
 
   -- the first record has the heading of the bytes
-  pub first-heading : (d : Direction) → headingOf d (firstRecord bytes) ≡ headingOf d bytes
+  first-heading : (d : Direction) → headingOf d (firstRecord bytes) ≡ headingOf d bytes
   unfolding headingOf
   first-heading d = rw (first-unknown d, first-keyed, first-map, first-keys)
 
   -- ---- decoding it
   module _ (d : Direction) where
-    pub first-refused : (n : ℕ) → eqb n accepted ≡ false → refused n ≡ decoded d (firstRecord bytes) → first (refused n) 0 ≡ decodedFirst d bytes
+    first-refused : (n : ℕ) → eqb n accepted ≡ false → refused n ≡ decoded d (firstRecord bytes) → first (refused n) 0 ≡ decodedFirst d bytes
     unfolding decodedFirst
     first-refused n refuses e = rw (← e, refuses)
 
@@ -183,5 +180,5 @@ module _ (bytes : List ℕ) where
       unfolding firstRecord decodedFirst
       first-whole l =
           let long : length (firstRecord bytes) ≡ called = length-take-le called bytes l in
-          let read = right-length d (firstRecord bytes) same (long ∙ sym (ap₂ size first-map first-keys)) in
+          let read = whole-length d (firstRecord bytes) same (long ∙ sym (ap₂ size first-map first-keys)) in
           rw (← read) (ap (first (record { number = accepted; fields = fieldsOf (firstRecord bytes) })) (sym long))

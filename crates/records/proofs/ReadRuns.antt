@@ -8,7 +8,6 @@ use Rattle.records.specs.declared.Direction.{Direction}
 use Rattle.records.specs.declared.Direction.the-variants.{Request}
 use Rattle.records.specs.declared.Decoded.{Decoded}
 use Rattle.records.specs.declared.Record.{Record}
-use Rattle.records.specs.declared.First.{First}
 use Rattle.records.specs.Bytes.{bit}
 use Rattle.records.specs.Layout.{maps, sum, size}
 use Rattle.records.specs.Codec.{isOneOf, mapOf, keysOf, decoded, firstRecord, decodedFirst, Run, readAtMost, readRun}
@@ -65,12 +64,12 @@ module _ (d : Direction) where
         let n = size (mapOf bytes) (keysOf bytes) in
         omega (arith, length-append (take n bytes) (drop n bytes), ap length (take-append-drop n bytes))
 
-    pub same-number : decodedFirst d bytes .number ≡ decoded d (firstRecord bytes) .number
+    same-number : decodedFirst d bytes .number ≡ decoded d (firstRecord bytes) .number
     unfolding decodedFirst
     same-number = refl
 
     module _ (ok : decodedFirst d bytes .number ≡ accepted) where
-      pub first-long : decodedFirst d bytes .length ≡ length (firstRecord bytes)
+      first-long : decodedFirst d bytes .length ≡ length (firstRecord bytes)
       unfolding decodedFirst
       first-long = rw ok
 

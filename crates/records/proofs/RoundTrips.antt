@@ -7,7 +7,7 @@ use lib.Seq.{take-at, drop-at, take-nil, take-append-add}
 use Rattle.prelude.specs.Choice.{branch}
 use Rattle.prelude.specs.Refusals.{accepted, firstOf}
 use Rattle.prelude.proofs.Choices.{is-true, is-false, passes}
-use Rattle.prelude.proofs.Refusals.{NoneOf, none-applied}
+use Rattle.prelude.proofs.Refusals.{NoneOf, none-applied, number-of}
 use Rattle.records.specs.declared.Direction.{Direction}
 use Rattle.records.specs.declared.Record.{Record}
 use Rattle.records.specs.Layout.{maps, longest, widths, sum, join, split, values, fromValues, size}
@@ -22,17 +22,9 @@ use Rattle.records.proofs.Joining.{length-split, split-join, join-split
 
 number-is : (d : Direction) (r : Record) (out : List ℕ) → encoded d r out .number ≡ writeRefusal d r out
 unfolding encoded
-number-is d r out = go (writeRefusal d r out)
-  where
-    done : Written
-    done = record { number = accepted; length = length (bytesOf r); buffer = bytesOf r ++ drop (length (bytesOf r)) out }
-
-    undone : ℕ → Written
-    undone n = record { number = n; length = 0; buffer = out }
-
-    go : (n : ℕ) → cond (eqb n accepted) done (undone n) .number ≡ n
-    go zero = refl
-    go (suc n) = rw (eqb·suc-zero n)
+number-is d r out =
+    number-of (λ (w : Written). w .number) (record { number = accepted; length = length (bytesOf r); buffer = bytesOf r ++ drop (length (bytesOf r)) out })
+    (λ n. record { number = n; length = 0; buffer = out }) (writeRefusal d r out) refl refl
 
 module _ (d : Direction) (r : Record) (out : List ℕ) (e : writeRefusal d r out ≡ accepted) where
   write-tests : NoneOf (writeRefusals d r out)

@@ -1,6 +1,6 @@
 -- The loop over the URLs: the lines of those that are left make the whole, and there is room for them.
-use Rattle.prelude.proofs.Kit.{ℕ, _≤_, _<_, _+_, _-_, _*_, suc, zero, add-one, arith, true, Bool, false, List, _∷_, [], _++_, map, _≡_, sym, _∙_, refl}
-use Rattle.prelude.proofs.Kit.{ap, subst, length, length-append, lt-ltb, ne-eqb, eq-eqb}
+use Rattle.prelude.proofs.Kit.{ℕ, _≤_, _<_, _+_, _-_, _*_, suc, add-one, arith, true, Bool, false, List, _∷_, [], _++_, map, _≡_, refl}
+use Rattle.prelude.proofs.Kit.{subst, length, length-append, lt-ltb, ne-eqb, eq-eqb}
 use Rattle.prelude.specs.Choice.{branch, keep}
 use Rattle.prelude.specs.Refusals.{accepted}
 use Rattle.prelude.specs.Lists.{numbers}
@@ -11,7 +11,7 @@ use Rattle.text.proofs.Writing.{Writing, writing-begins, writing-goes-on, writi
 use Rattle.usage.specs.declared.Tally.{Tally}
 use Rattle.usage.specs.Tally.{urls}
 use Rattle.usage.specs.Lines.{Line, lineOf, hasAny, linesOf, lines}
-use Rattle.tally.specs.Report.{lineText, lineIfAny, linesText, lastLine, badLine, report}
+use Rattle.tally.specs.Report.{lineText, lineRoom, lineIfAny, linesText, lastLine, badLine, report}
 
 -- ---- one line
 
@@ -24,14 +24,14 @@ module _ (l : Line) where
   unfolding branch
   its-line ne = rw (lt-ltb 0 (l .records) (omega (arith, ne)))
 
-  line-short : length (lineIfAny l) ≤ 33
+  line-short : length (lineIfAny l) ≤ lineRoom
   unfolding branch
   line-short = go (hasAny l)
     where
       pair : List ℕ
       pair = (decimal (l .records) ++ (space ∷ [])) ++ (decimal (l .cookies) ++ (newline ∷ []))
 
-      go : (b : Bool) → length (branch b (lineText l) []) ≤ 33
+      go : (b : Bool) → length (branch b (lineText l) []) ≤ lineRoom
       go false = omega arith
       go true =
           omega (
@@ -67,7 +67,7 @@ module _ (records cookies : List ℕ) where
       go false = refl
 
   -- each line has room for ten digits three times
-  few-lines : (us : List ℕ) → length (linesText (keep hasAny (map (lineOf records cookies) us))) ≤ 33 * length us
+  few-lines : (us : List ℕ) → length (linesText (keep hasAny (map (lineOf records cookies) us))) ≤ lineRoom * length us
   unfolding keep linesText branch
   few-lines [] = omega arith
   few-lines (u ∷ us) = go (hasAny (lineOf records cookies u)) (few-lines us) (line-short (lineOf records cookies u))
@@ -75,12 +75,12 @@ module _ (records cookies : List ℕ) where
       later : List Line
       later = keep hasAny (map (lineOf records cookies) us)
 
-      go : (b : Bool) → length (linesText later) ≤ 33 * length us → length (branch b (lineText (lineOf records cookies u)) []) ≤ 33
-          → length (linesText (branch b (lineOf records cookies u ∷ later) later)) ≤ 33 * suc (length us)
+      go : (b : Bool) → length (linesText later) ≤ lineRoom * length us → length (branch b (lineText (lineOf records cookies u)) []) ≤ lineRoom
+          → length (linesText (branch b (lineOf records cookies u ∷ later) later)) ≤ lineRoom * suc (length us)
       go true l k = omega (arith, l, k, length-append (lineText (lineOf records cookies u)) (linesText later))
       go false l k = omega (arith, l)
 
-  pub lines-short : length (linesText (linesOf records cookies)) ≤ urlRows * 33
+  pub lines-short : length (linesText (linesOf records cookies)) ≤ urlRows * lineRoom
   unfolding linesOf urls numbers
   lines-short = few-lines urls
 
@@ -92,18 +92,18 @@ module _ (records cookies : List ℕ) where
 
   -- the lines before URL `u` end at `at`
   pub record Listing (before text : List ℕ) (at u : ℕ) : Type 0 where
-    pub room : at + 33 * (urlRows - u) ≤ length before
+    pub room : at + lineRoom * (urlRows - u) ≤ length before
     pub writing : Writing before 0 (linesText (linesOf records cookies)) text at (rest u)
 
   module _ {before : List ℕ} where
-    pub listing-begins : urlRows * 33 ≤ length before → Listing before before 0 0
+    pub listing-begins : urlRows * lineRoom ≤ length before → Listing before before 0 0
     listing-begins h = record { room = omega arith; writing = subst (Writing before 0 (linesText (linesOf records cookies)) before 0) all-lines writing-begins }
 
     module _ {text : List ℕ} {at u : ℕ} (p : Listing before text at u) where
       pub listing-ends : urlRows ≤ u → Wrote before 0 (linesText (linesOf records cookies)) text at
       listing-ends l = writing-ends (p .writing) (rest-none u l) (omega (arith, p .room))
 
-      pub line-room : u < urlRows → at + 33 ≤ length text
+      pub line-room : u < urlRows → at + lineRoom ≤ length text
       line-room l = omega (arith, p .room, p .writing .long)
 
       pub listing-goes-on : {after : List ℕ} {next : ℕ} → u < urlRows → Wrote text at (lineIfAny (lineOf records cookies u)) after next → Listing before after next (u + 1)

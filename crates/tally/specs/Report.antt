@@ -1,10 +1,11 @@
 -- What tally prints (document 01, "A tally of requests").
-use Prim.Native.Nat.{ℕ}
+use Prim.Native.Nat.{ℕ, _+_, _*_}
 use mathlib.Core.Bool.{cond}
 use mathlib.Core.List.{List, [], _∷_, _++_}
 use lib.Dec.{eqb}
 use Rattle.prelude.specs.Choice.{branch}
 use Rattle.prelude.specs.Refusals.{accepted}
+use Rattle.machine.specs.Policy.{urlRows}
 use Rattle.text.specs.Text.{decimal, line}
 use Rattle.usage.specs.declared.Tally.{Tally}
 use Rattle.usage.specs.Tally.{tallied}
@@ -13,6 +14,10 @@ use Rattle.usage.specs.Lines.{Line, hasAny, lines}
 -- URL, records, cookies
 abbrev pub lineText : Line → List ℕ
 lineText l = line (decimal (l .url) ∷ decimal (l .records) ∷ decimal (l .cookies) ∷ [])
+
+-- room for it: three numbers of at most ten digits, each with the byte that ends it
+abbrev pub lineRoom : ℕ
+lineRoom = 33
 
 -- nothing of a URL that has no request
 abbrev pub lineIfAny : Line → List ℕ
@@ -26,12 +31,20 @@ linesText (l ∷ ls) = lineText l ++ linesText ls
 abbrev pub lastLine : ℕ → ℕ → List ℕ
 lastLine records cookies = line ((0x61 ∷ 0x6c ∷ 0x6c ∷ []) ∷ decimal records ∷ decimal cookies ∷ [])
 
+-- room for it: a word of three letters and two such numbers
+abbrev pub lastRoom : ℕ
+lastRoom = 26
+
 -- `bad`, of a list that is refused
 abbrev pub badLine : List ℕ
 badLine = line ((0x62 ∷ 0x61 ∷ 0x64 ∷ []) ∷ [])
 
 unfoldable pub report : Tally → List ℕ
 report t = cond (eqb (t .number) accepted) (linesText (lines t) ++ lastLine (t .«all_records») (t .«all_cookies»)) badLine
+
+-- room for a line of each URL and the last one
+abbrev pub reportRoom : ℕ
+reportRoom = urlRows * lineRoom + lastRoom
 
 -- all that is printed of a list of requests
 abbrev pub printed : List ℕ → List ℕ

@@ -5,12 +5,13 @@ ghost use lib.ListN.{length};
 ghost use Rattle.machine.specs.Policy.{urlRows};
 ghost use Rattle.text.specs.Text.{Wrote, AtFront};
 ghost use Rattle.usage.specs.Lines.{linesOf};
-ghost use Rattle.tally.specs.Report.{lineText, lineIfAny, linesText, lastLine, report};
-use policy::words::URL_ROWS;
+ghost use Rattle.tally.specs.Report.{lineText, lineIfAny, linesText, lineRoom, lastLine, lastRoom, reportRoom, report};
 use text::write_bytes;
 use text::write_number;
 use text::write_pair;
+use usage::ACCEPTED;
 use usage::Tally;
+use usage::URL_ROWS;
 
 // Three numbers of at most ten digits, each with the byte that ends it.
 const LINE_BYTES: usize = 33;
@@ -21,7 +22,7 @@ const LAST_BYTES: usize = 26;
 pub const REPORT_BYTES: usize = URL_ROWS * LINE_BYTES + LAST_BYTES;
 
 fn write_line(text: &mut [u8], at: usize, url: u32, records: u32, cookies: u32) -> usize
-    requires { ⌜ at + 33 ≤ length (now text) ⌝ }
+    requires { ⌜ at + lineRoom ≤ length (now text) ⌝ }
     ensures { λ r. ⌜ Wrote (now (text .entry)) at (lineText (record { url = url; records = records; cookies = cookies })) (now (text .exit)) r ⌝ }
 {
     let at_records = write_number(text, at, url, b' ');
@@ -30,7 +31,7 @@ fn write_line(text: &mut [u8], at: usize, url: u32, records: u32, cookies: u32) 
 
 // The line of a URL that has any request; of another, nothing.
 fn write_line_if_any(text: &mut [u8], at: usize, url: u32, records: u32, cookies: u32) -> usize
-    requires { ⌜ at + 33 ≤ length (now text) ⌝ }
+    requires { ⌜ at + lineRoom ≤ length (now text) ⌝ }
     ensures { λ r. ⌜ Wrote (now (text .entry)) at (lineIfAny (record { url = url; records = records; cookies = cookies })) (now (text .exit)) r ⌝ }
 {
     if records == 0 {
@@ -40,7 +41,7 @@ fn write_line_if_any(text: &mut [u8], at: usize, url: u32, records: u32, cookies
 }
 
 fn write_lines(text: &mut [u8], records: &[u32], cookies: &[u32]) -> usize
-    requires { ⌜ (urlRows * 33 ≤ length (now text)) × (length (now records) ≡ urlRows) × (length (now cookies) ≡ urlRows) ⌝ }
+    requires { ⌜ (urlRows * lineRoom ≤ length (now text)) × (length (now records) ≡ urlRows) × (length (now cookies) ≡ urlRows) ⌝ }
     ensures { λ r. ⌜ Wrote (now (text .entry)) 0 (linesText (linesOf (now (records .entry)) (now (cookies .entry)))) (now (text .exit)) r ⌝ }
 {
     let mut at = 0;
@@ -51,7 +52,7 @@ fn write_lines(text: &mut [u8], records: &[u32], cookies: &[u32]) -> usize
 }
 
 fn write_last_line(text: &mut [u8], at: usize, records: u32, cookies: u32) -> usize
-    requires { ⌜ at + 26 ≤ length (now text) ⌝ }
+    requires { ⌜ at + lastRoom ≤ length (now text) ⌝ }
     ensures { λ r. ⌜ Wrote (now (text .entry)) at (lastLine records cookies) (now (text .exit)) r ⌝ }
 {
     let at_records = write_bytes(text, at, b"all ");
@@ -60,10 +61,10 @@ fn write_last_line(text: &mut [u8], at: usize, records: u32, cookies: u32) -> us
 
 // All that is printed of a tally.
 pub fn write_report(text: &mut [u8], tally: Tally) -> usize
-    requires { do ⌜ (← ⟦REPORT_BYTES⟧) ≤ length (now text) ⌝ }
+    requires { ⌜ reportRoom ≤ length (now text) ⌝ }
     ensures { λ r. ⌜ AtFront (report tally) (now (text .entry)) (now (text .exit)) r ⌝ }
 {
-    if tally.number != records::ACCEPTED {
+    if tally.number != ACCEPTED {
         return write_bytes(text, 0, b"bad\n");
     }
     let records = tally.records;

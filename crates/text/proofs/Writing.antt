@@ -1,7 +1,7 @@
 -- Pieces written one after another are written as one, and what is written from place 0 on is at the front.
-use Rattle.prelude.proofs.Kit.{ℕ, _≤_, _<_, _+_, suc, zero-add, add-one, arith, List, _∷_, [], _++_, _≡_, sym, _∙_, refl, ap, length, drop, getD}
+use Rattle.prelude.proofs.Kit.{ℕ, _≤_, _<_, _+_, suc, zero-add, add-one, arith, List, _∷_, [], _++_, _≡_, sym, _∙_, refl, ap, length, take, drop, getD}
 use Rattle.prelude.proofs.Kit.{set, length-append, sets, drop-cons}
-use lib.Seq.{drop-length, length-sets, sets-eq}
+use lib.Seq.{drop-length, take-at, length-sets, sets-eq}
 use Rattle.prelude.proofs.Lists.{sets-append}
 use Rattle.text.specs.Text.{AtFront, Wrote}
 
@@ -24,6 +24,10 @@ at-front {l} {m} {x} f = (
 -- what is at the front of a text is within it
 pub front-within : (x l m : List ℕ) (k : ℕ) → AtFront x l m k → k ≤ length m
 front-within x l m k f = omega (arith, f .0, ap length (f .1), length-append x (drop (length x) l))
+
+-- and is those bytes
+pub front-is : (x l m : List ℕ) (k : ℕ) → AtFront x l m k → take k m ≡ x
+front-is x l m k f = rw (f .0, f .1) (take-at x (drop (length x) l) (length x) refl)
 
 -- ---- pieces in a loop: what is left to write makes the whole
 

@@ -44,7 +44,7 @@ line (word ∷ next ∷ words) = (word ++ (space ∷ [])) ++ line (next ∷ word
 abbrev pub AtFront : List ℕ → List ℕ → List ℕ → ℕ → Type 0
 AtFront bytes before after count = (count ≡ length bytes) × (after ≡ bytes ++ drop (length bytes) before)
 
--- The same from any place of the text on, for the contracts of the functions within the crate; `next` is the place after the bytes.
+-- The same from any place of the text on; `next` is the place after the bytes.
 pub record Wrote (before : List ℕ) (at : ℕ) (bytes after : List ℕ) (next : ℕ) : Type 0 where
   pub place : next ≡ at + length bytes
   pub within : next ≤ length before

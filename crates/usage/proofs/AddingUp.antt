@@ -1,14 +1,13 @@
 -- Each line of a tally has the figures of its URL's requests, and the lines add up to the totals, which are those of the list.
 use Rattle.prelude.proofs.Kit.{ℕ, _<_, _+_, suc, zero, add-zero, zero-add, zero-lt-suc, arith, true, Bool, false, List, _∷_, [], map, _≡_, sym, _∙_}
-use Rattle.prelude.proofs.Kit.{refl, ap, T, eqb, ltb, and-r, length, getD, ne-eqb, subst, ℕ-discrete}
+use Rattle.prelude.proofs.Kit.{refl, ap, T, eqb, ltb, and-r, length, subst}
 use Prim.Native.Nat.{suc-le-suc}
 use borrow.Author.Tests.{ltb-false}
 use Rattle.prelude.specs.Choice.{branch, keep}
 use Rattle.prelude.specs.Lists.{numbers}
 use Rattle.prelude.specs.Refusals.{accepted, firstOf}
 use Rattle.prelude.proofs.Choices.{passes}
-use Rattle.prelude.proofs.Lists.{map-at}
-use Rattle.prelude.proofs.Refusals.{none-applied}
+use Rattle.prelude.proofs.Refusals.{none-applied, number-of}
 use Rattle.records.specs.declared.Direction.the-variants.{Request}
 use Rattle.records.specs.declared.Record.{Record}
 use Rattle.records.specs.Layout.{sum}
@@ -17,7 +16,7 @@ use Rattle.machine.specs.Policy.{urlRows}
 use Rattle.usage.specs.declared.Tally.{Tally}
 use Rattle.usage.specs.Tally.{cookiesIn, requestsTo, urls, counts, allInRange, good, listRefusals, refused, tallied}
 use Rattle.usage.specs.Lines.{Line, lineOf, hasAny, linesOf, lines, figures, LinesAreFigures, LinesAddUp}
-use Rattle.usage.proofs.Weights.{weight, one, length-weight, parts-weigh}
+use Rattle.usage.proofs.Weights.{weight, one, length-weight, at-url, parts-weigh}
 use Rattle.usage.proofs.Carried.{carried}
 
 -- ---- a list that is not refused
@@ -29,10 +28,7 @@ module _ (requests : List ℕ) where
   -- its number is that of the first refusal
   number-is : tallied requests .number ≡ number
   unfolding tallied counts number
-  number-is = elim (ℕ-discrete number accepted) [
-    | yes e ↦ rw e
-    | no ne ↦ rw (ne-eqb number accepted ne)
-  ]
+  number-is = number-of (λ (t : Tally). t .number) (counts (readRun Request requests .records)) refused number refl refl
 
   module _ (ok : tallied requests .number ≡ accepted) where
     none : number ≡ accepted
@@ -66,13 +62,10 @@ lines-are : (rs : List Record) → lines (counts rs) ≡ keep hasAny (map (figur
 unfolding linesOf counts urls
 lines-are rs = ap (keep hasAny) (map-same (line-of rs) (figures rs) urlRows 0 (λ k l. subst (λ (j : ℕ). line-of rs j ≡ figures rs j) (sym (zero-add k)) (at k l)))
   where
-    found : (f : ℕ → ℕ) (k : ℕ) → k < urlRows → getD (map f (numbers 0 urlRows)) k 0 ≡ f k
-    found f k l = map-at f urlRows 0 k l ∙ ap f (zero-add k)
-
     at : (k : ℕ) → k < urlRows → line-of rs k ≡ figures rs k
     at k l =
-        let records = found (λ u. length (requestsTo u rs)) k l in
-        let cookies = found (λ u. cookiesIn (requestsTo u rs)) k l in
+        let records = at-url (λ u. length (requestsTo u rs)) k l in
+        let cookies = at-url (λ u. cookiesIn (requestsTo u rs)) k l in
         λ i. record { url = k; records = records i; cookies = cookies i }
 
 pub lines-are-figures : LinesAreFigures
@@ -93,10 +86,10 @@ sum-kept v g zeros (u ∷ us) = go (hasAny (g u)) refl (sum-kept v g zeros us)
     go true e same = ap (λ (n : ℕ). v (g u) + n) same
     go false e same = omega (arith, same, zeros u e)
 
-none-carried : (rs : List Record) → length rs ≡ 0 → cookiesIn rs ≡ 0
+no-cookies : (rs : List Record) → length rs ≡ 0 → cookiesIn rs ≡ 0
 unfolding cookiesIn
-none-carried [] e = refl
-none-carried (r ∷ rs) e = absurd (omega arith)
+no-cookies [] e = refl
+no-cookies (r ∷ rs) e = absurd (omega arith)
 
 no-requests : (n : ℕ) → ltb 0 n ≡ false → n ≡ 0
 no-requests n e = omega (arith, ltb-false 0 n e)
@@ -115,7 +108,7 @@ module _ (rs : List Record) (range : T (allInRange rs)) where
   cookies-add-up : sum (map (λ l. l .cookies) kept) ≡ cookiesIn rs
   unfolding cookiesIn
   cookies-add-up =
-      sum-kept (λ l. l .cookies) (figures rs) (λ u e. none-carried (requestsTo u rs) (no-requests (length (requestsTo u rs)) e)) urls ∙ parts-weigh carried rs range
+      sum-kept (λ l. l .cookies) (figures rs) (λ u e. no-cookies (requestsTo u rs) (no-requests (length (requestsTo u rs)) e)) urls ∙ parts-weigh carried rs range
 
 pub lines-add-up : LinesAddUp
 unfolding counts

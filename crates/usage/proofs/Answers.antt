@@ -1,12 +1,11 @@
 -- What is answered to a list: zeros where a test refuses it, and else its counts.
-use Rattle.prelude.proofs.Kit.{ℕ, _≤_, _<_, true, false, not, List, map, _≡_, sym, _∙_, refl, ap, ap₂, length, le-ltb, lt-ltb}
+use Rattle.prelude.proofs.Kit.{ℕ, _≤_, _<_, true, false, not, List, map, _≡_, sym, _∙_, ap, length, le-ltb, lt-ltb}
 use Rattle.prelude.specs.Refusals.{accepted}
 use Rattle.prelude.proofs.Refusals.{first-is, none-applies}
 use Rattle.records.specs.declared.Direction.the-variants.{Request}
 use Rattle.records.specs.declared.Record.{Record}
 use Rattle.records.specs.Codec.{readRun}
-use Rattle.usage.specs.declared.Tally.{Tally}
-use Rattle.usage.specs.Tally.{cookiesIn, requestsTo, urls, counts, listBytes, listBad, good, listRefusals, refused, tallied}
+use Rattle.usage.specs.Tally.{cookiesIn, requestsTo, urls, counts, listBytes, listBad, good, listRefusals, refused, tallied, LongerIsRefused}
 use Rattle.usage.proofs.Weights.{weight, one, length-weight}
 use Rattle.usage.proofs.Carried.{carried}
 
@@ -36,3 +35,6 @@ weighed rs {by} {carriedBy} {n} {m} eb ec en em =
     let records = eb ∙ same in
     let total = en ∙ length-weight rs in
     λ i. record { number = accepted; records = records i; cookies = ec i; «all_records» = total i; «all_cookies» = em i }
+
+pub longer-is-refused : LongerIsRefused
+longer-is-refused requests l = sym (too-long requests l)

@@ -1,9 +1,8 @@
 -- The cookies of a request: as many as its key map has ones, and no more than eight. So no count passes 32 bits.
-use Rattle.prelude.proofs.Kit.{ℕ, _≤_, _<_, _+_, _*_, _/_, _%_, _^_, suc, zero, arith, true, Bool, false, List, _∷_, [], map, _≡_, sym, _∙_, refl, ap}
+use Rattle.prelude.proofs.Kit.{ℕ, _≤_, _<_, _+_, _*_, suc, zero, arith, List, _∷_, [], map, _≡_, sym, _∙_, refl}
 use Rattle.prelude.proofs.Kit.{eqb, length}
 use lib.Count.{ones}
 use lib.ListN.{length-map}
-use borrow.Author.Tests.{eqb-true}
 use Rattle.prelude.specs.Choice.{branch, keep}
 use Rattle.prelude.proofs.Choices.{keep-short}
 use Rattle.records.specs.declared.Direction.the-variants.{Request}
@@ -14,7 +13,7 @@ use Rattle.records.specs.Codec.{readRun}
 use Rattle.records.specs.Places.{cookieWidths}
 use Rattle.records.proofs.Starts.{ones-keys}
 use Rattle.records.proofs.ReadRuns.{run-few}
-use Rattle.machine.specs.Session.{has, Cookie}
+use Rattle.machine.specs.Session.{has}
 use Rattle.machine.specs.Machine.{cookiesOf}
 use Rattle.usage.proofs.Weights.{weight, one, length-weight}
 

@@ -1,14 +1,13 @@
 -- The loop over a list of requests: what is counted so far, and what the rest of the list has, make the whole.
-use Rattle.prelude.proofs.Kit.{ℕ, _≤_, _<_, _+_, _*_, suc, zero, zero-add, arith, true, Bool, false, not, _&&_, List, _∷_, [], map, _≡_, sym, _∙_}
+use Rattle.prelude.proofs.Kit.{ℕ, _≤_, _<_, _+_, _*_, zero-add, arith, true, Bool, false, _&&_, List, _∷_, [], map, _≡_, sym, _∙_}
 use Rattle.prelude.proofs.Kit.{refl, ap, T, eqb, ltb, ltb→lt, and-l, length, drop, getD, set, length-set, eq-eqb, subst, true≢false, ne-eqb, drop-of-length-le, length-drop, drop-drop}
 use mathlib.Core.Bool.{and-false}
-use lib.ListN.{replicate, length-replicate, getD-replicate, length-map}
+use lib.ListN.{replicate, length-replicate, getD-replicate}
 use lib.Seq.{getD-set-same, getD-set-other, ext-getD}
 use borrow.Author.Tests.{eqb-true}
 use Rattle.prelude.specs.Choice.{keep}
 use Rattle.prelude.specs.Lists.{numbers}
 use Rattle.prelude.specs.Refusals.{accepted}
-use Rattle.prelude.proofs.Lists.{map-at}
 use Rattle.records.specs.declared.Direction.the-variants.{Request}
 use Rattle.records.specs.declared.First.{First}
 use Rattle.records.specs.declared.Record.{Record}
@@ -17,7 +16,7 @@ use Rattle.records.proofs.ReadRuns.{followed, nothing, first-bytes, first-size,
 use Rattle.machine.specs.Policy.{urlRows, isConnection}
 use Rattle.machine.specs.Scripts.{isScript}
 use Rattle.usage.specs.Tally.{requestsTo, urls, inRange, allInRange, good}
-use Rattle.usage.proofs.Weights.{weight, one, to-it, to-another, part-weighs}
+use Rattle.usage.proofs.Weights.{weight, one, at-url, to-it, to-another, part-weighs}
 use Rattle.usage.proofs.Carried.{carried, none-carried, records-weigh, cookies-weigh}
 
 module _ (w : Record → ℕ) where
@@ -27,7 +26,7 @@ module _ (w : Record → ℕ) where
     pub each : (u : ℕ) → u < urlRows → getD counts u 0 + weight w (requestsTo u rest) ≡ weight w (requestsTo u all)
     pub whole : total + weight w rest ≡ weight w all
 
-  pub counted-begins : (all : List Record) → Counted all all (replicate urlRows 0) 0
+  counted-begins : (all : List Record) → Counted all all (replicate urlRows 0) 0
   counted-begins all = record {
     rows = length-replicate {A = ℕ} urlRows 0;
     each = λ u l. omega (arith, getD-replicate {A = ℕ} urlRows u 0 0 l);
@@ -42,7 +41,7 @@ module _ (w : Record → ℕ) where
     counts-fit : (getD counts (r .url) 0 + w r ≤ weight w all) × (total + w r ≤ weight w all)
     counts-fit = (omega (arith, own, part-weighs w (r .url) all), omega (arith, c .whole))
 
-    pub counted-goes-on : Counted all rest (set counts (r .url) (getD counts (r .url) 0 + w r)) (total + w r)
+    counted-goes-on : Counted all rest (set counts (r .url) (getD counts (r .url) 0 + w r)) (total + w r)
     counted-goes-on = record {
       rows = length-set counts (r .url) (getD counts (r .url) 0 + w r) ∙ c .rows;
       each = λ u l. go u l (eqb (r .url) u) refl;
@@ -72,22 +71,17 @@ module _ (w : Record → ℕ) where
       go u l true e = omega (arith, c .each u l, to-it w r rest u e, none)
       go u l false e = omega (arith, c .each u l, to-another w r rest u e)
 
-  pub counted-ends : {all : List Record} {counts : List ℕ} {total : ℕ} → Counted all [] counts total
+  counted-ends : {all : List Record} {counts : List ℕ} {total : ℕ} → Counted all [] counts total
       → (counts ≡ map (λ u. weight w (requestsTo u all)) urls) × (total ≡ weight w all)
   unfolding urls numbers requestsTo keep
   counted-ends {all} {counts} {total} c = (
     ext-getD 0 counts (map (λ u. weight w (requestsTo u all)) urls) (c .rows)
-        (λ i l. at-url i (omega (arith, l, c .rows))),
+        (λ i l. here i (omega (arith, l, c .rows))),
     omega (arith, c .whole),
   )
     where
-      weighed : ℕ → ℕ
-      weighed u = weight w (requestsTo u all)
-
-      at-url : (i : ℕ) → i < urlRows → getD counts i 0 ≡ getD (map weighed urls) i 0
-      at-url i l =
-          let there : getD (map weighed urls) i 0 ≡ weighed i = map-at weighed urlRows 0 i l ∙ ap weighed (zero-add i) in
-          omega (arith, c .each i l, there)
+      here : (i : ℕ) → i < urlRows → getD counts i 0 ≡ getD (map (λ u. weight w (requestsTo u all)) urls) i 0
+      here i l = omega (arith, c .each i l, at-url (λ u. weight w (requestsTo u all)) i l)
 
 -- ---- the list of bytes
 

@@ -1,9 +1,9 @@
 -- Requests counted with a weight: 1 for each, or its cookies. What a list weighs is what the requests to each URL weigh together.
-use Rattle.prelude.proofs.Kit.{ℕ, _≤_, _<_, _+_, _*_, suc, zero, not-suc-le-zero, arith, true, Bool, false, _&&_, cond, true≢false, List, _∷_, [], map}
-use Rattle.prelude.proofs.Kit.{_≡_, sym, _∙_, refl, ap, T, eqb, ltb, ltb→lt, and-l, and-r, length, ne-eqb, eq-eqb, ℕ-discrete, subst}
-use borrow.Author.Tests.{eqb-true}
+use Rattle.prelude.proofs.Kit.{ℕ, _≤_, _<_, _+_, suc, zero, zero-add, arith, true, Bool, false, _&&_, cond, List, _∷_, [], map}
+use Rattle.prelude.proofs.Kit.{_≡_, _∙_, refl, ap, T, eqb, ltb, ltb→lt, and-l, and-r, length, getD, ne-eqb, eq-eqb, ℕ-discrete}
 use Rattle.prelude.specs.Choice.{branch, keep}
 use Rattle.prelude.specs.Lists.{numbers}
+use Rattle.prelude.proofs.Lists.{map-at}
 use Rattle.records.specs.declared.Record.{Record}
 use Rattle.records.specs.Layout.{sum}
 use Rattle.machine.specs.Policy.{urlRows, isConnection}
@@ -23,7 +23,7 @@ length-weight (r ∷ rs) = ap (λ (n : ℕ). 1 + n) (length-weight rs) ∙ omega
 
 -- ---- sums
 
-pub sum-none : (us : List ℕ) → sum (map (λ u. 0) us) ≡ 0
+sum-none : (us : List ℕ) → sum (map (λ u. 0) us) ≡ 0
 sum-none [] = refl
 sum-none (u ∷ us) = omega (arith, sum-none us)
 
@@ -53,6 +53,11 @@ once k c (suc n) from l h = elim (ℕ-discrete k from) [
   | yes e ↦ let rest = before k c n (suc from) (omega (arith, e)) in rw (eq-eqb k from e) (omega (arith, rest))
   | no ne ↦ let rest = once k c n (suc from) (omega (arith, ne)) (omega arith) in rw (ne-eqb k from ne) (omega (arith, rest))
 ]
+
+-- what is made of all URLs, at one of them
+pub at-url : (f : ℕ → ℕ) (u : ℕ) → u < urlRows → getD (map f urls) u 0 ≡ f u
+unfolding urls
+at-url f u l = map-at f urlRows 0 u l ∙ ap f (zero-add u)
 
 -- one of the URLs is a request's own
 its-url : (k c : ℕ) → k < urlRows → sum (map (at k c) urls) ≡ c

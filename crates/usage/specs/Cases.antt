@@ -4,14 +4,14 @@ use mathlib.Core.Bool.{Bool, true, _&&_}
 use mathlib.Core.List.{List, [], _∷_, _++_}
 use lib.Dec.{T}
 use lib.ListN.{replicate}
-use Rattle.machine.specs.Policy.{urlRows}
+use Rattle.records.specs.Layout.{sum}
 use Rattle.machine.specs.Cases.{sameNumbers}
 use Rattle.machine.specs.SecrecyExamples.{sentWithHidden}
-use Rattle.usage.specs.declared.Tally.{Tally}
-use Rattle.usage.specs.Tally.{listBad, listBytes, tallied}
+use Rattle.usage.specs.Tally.{listBad, tallied}
 use Rattle.usage.specs.Lines.{Line, lines}
 
--- what a list is answered: the number, the lines as URL, records and cookies, and both totals
+-- What a list is answered: the number, the lines as URL, records and cookies, and both totals, which are also the sums of all counts. So every
+-- count of a refused list is 0.
 pub record Case : Type 0 where
   pub requests : List ℕ
   pub number : ℕ
@@ -33,7 +33,8 @@ gives c =
     let t = tallied (c .requests) in
     sameNumbers (t .number ∷ []) (c .number ∷ [])
     && (sameNumbers (numbersOf (lines t)) (c .lines)
-    && sameNumbers (t .«all_records» ∷ t .«all_cookies» ∷ []) (c .totals))
+    && (sameNumbers (t .«all_records» ∷ t .«all_cookies» ∷ []) (c .totals)
+    && sameNumbers (sum (t .records) ∷ sum (t .cookies) ∷ []) (c .totals)))
 
 unfoldable pub allGive : List Case → Bool
 allGive [] = true

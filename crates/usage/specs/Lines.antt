@@ -39,8 +39,8 @@ lines t = linesOf (t .records) (t .cookies)
 abbrev pub figures : List Record → ℕ → Line
 figures rs u = record { url = u; records = length (requestsTo u rs); cookies = cookiesIn (requestsTo u rs) }
 
--- Each line has the figures of the requests to its URL, and each URL with a request has its line: the lines of a list that is not refused are, in
--- rising order of the URLs, the figures that are not of an empty list.
+-- Each line has the figures of the requests to its URL, and each URL with a request has its line: the lines of a list that is not refused are, for
+-- each URL that has a request and in rising order, the figures of its requests.
 abbrev pub LinesAreFigures : Type 0
 LinesAreFigures =
     (requests : List ℕ) → tallied requests .number ≡ accepted

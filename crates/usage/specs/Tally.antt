@@ -1,8 +1,9 @@
 -- The tally of requests (document 01, "A tally of requests"): of a list of request records one after another, how many each URL has and how many
 -- cookies they carry, and both in all.
-use Prim.Native.Nat.{ℕ}
+use Prim.Native.Nat.{ℕ, _<_}
 use mathlib.Core.Bool.{Bool, true, not, _&&_, cond}
 use mathlib.Core.List.{List, [], _∷_, map}
+use mathlib.Core.Path.{_≡_}
 use lib.Dec.{ltb, eqb}
 use lib.ListN.{length, replicate}
 use Rattle.prelude.specs.Choice.{keep}
@@ -78,3 +79,7 @@ unfoldable pub tallied : List ℕ → Tally
 tallied requests =
     let n = firstOf (listRefusals requests) accepted in
     cond (eqb n accepted) (counts (readRun Request requests .records)) (refused n)
+
+-- The limit, in numbers: whatever a list of more than 65,536 bytes holds, it gets 13 and zeros. (No worked case has such a list.)
+abbrev pub LongerIsRefused : Type 0
+LongerIsRefused = (requests : List ℕ) → 65536 < length requests → tallied requests ≡ refused 13

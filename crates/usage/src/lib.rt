@@ -4,7 +4,8 @@ ghost use Prim.Native.Nat.{_≤_};
 ghost use lib.ListN.{length};
 ghost use Rattle.usage.specs.Tally.{inRange, listBytes, refused, tallied};
 use policy::words::CONNECTIONS;
-use policy::words::URL_ROWS;
+pub use policy::words::URL_ROWS;
+pub use records::ACCEPTED;
 use records::Direction;
 use records::Record;
 use records::SHORTEST_REQUEST;
@@ -59,7 +60,7 @@ fn count(requests: &[u8]) -> Tally
     let mut from = 0;
     while from < requests.len() {
         let request = records::decode_first(Direction::Request, &requests[from..]);
-        if request.number != records::ACCEPTED {
+        if request.number != ACCEPTED {
             return refused(LIST_BAD);
         }
         let fields = request.fields;
@@ -80,7 +81,7 @@ fn count(requests: &[u8]) -> Tally
         from = from + request.length;
     }
     Tally {
-        number: records::ACCEPTED,
+        number: ACCEPTED,
         records: by_url,
         cookies: carried_by_url,
         all_records,

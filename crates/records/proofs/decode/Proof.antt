@@ -6,7 +6,7 @@ use Rattle.records.specs.declared.heading.Heading.{Heading}
 use Rattle.records.specs.Layout.{size}
 use Rattle.records.specs.Codec.{mapOf, keysOf, refused}
 use Rattle.records.specs.Heading.{heading, headingOf}
-use Rattle.records.proofs.Headings.{refuses, has-maps, other-length, right-length}
+use Rattle.records.proofs.Headings.{refuses, has-maps, other-length, whole-length}
 use Rattle.records.proofs.decode.Statement.{statement}
 use Rattle.records.proofs.decode.Tie as tie
 
@@ -51,7 +51,7 @@ returns-3 c =
     let m = c .before .before .before in
     let a = start (m .before .before) .args in
     ap (λ (r : Record). record { number = accepted; fields = r }) (c .read .ensures)
-    ∙ right-length (a .direction) (now (a .bytes)) (number m) (long (c .before))
+    ∙ whole-length (a .direction) (now (a .bytes)) (number m) (long (c .before))
 
 pub decode-spec : {M : Type 1} → statement M
 decode-spec =

@@ -1,5 +1,5 @@
 -- `decode_first` meets its contract: the first record has the heading of the bytes, and as many bytes as it calls for are the record.
-use Rattle.prelude.proofs.Kit.{ℕ, _≤_, arith, List, _≡_, sym, _∙_, ap, ap₂, needs, now, length, take, length-take-le}
+use Rattle.prelude.proofs.Kit.{ℕ, arith, _≡_, sym, _∙_, ap, ap₂, needs, now, length, take, length-take-le}
 use Rattle.prelude.specs.Refusals.{accepted}
 use Rattle.records.specs.declared.Record.{Record}
 use Rattle.records.specs.declared.heading.Heading.{Heading}

@@ -1,14 +1,12 @@
 -- `count` meets its contract: what is counted and what is left make the whole, and at each return the tests say what is answered.
-use Rattle.prelude.proofs.Kit.{ℕ, _≤_, _<_, _+_, _-_, _*_, _^_, arith, true, false, List, _≡_, sym, _∙_, refl, ap, needs, now, length, getD}
+use Rattle.prelude.proofs.Kit.{ℕ, _≤_, _<_, _+_, _-_, _*_, arith, true, List, _≡_, sym, _∙_, ap, needs, now, length, getD}
 use Rattle.prelude.proofs.Kit.{drop, set, subst, not-false, not-true}
-use Rattle.prelude.specs.Refusals.{accepted}
 use Rattle.records.specs.declared.Direction.the-variants.{Request}
 use Rattle.records.specs.declared.First.{First}
 use Rattle.records.specs.Codec.{decodedFirst, readRun}
 use Rattle.records.proofs.ReadRuns.{rest-is}
 use Rattle.machine.specs.Policy.{urlRows}
 use Rattle.usage.specs.Tally.{inRange, listBytes}
-use Rattle.usage.proofs.Weights.{one}
 use Rattle.usage.proofs.Carried.{carried, ones-carried}
 use Rattle.usage.proofs.Counting.{Counting, counting-begins, counting-ends, none-next, bytes-next, out-of-range, url-next, counts-small, counting-passes, counting-goes-on}
 use Rattle.usage.proofs.Answers.{not-good, all-good, weighed}

@@ -1,7 +1,6 @@
 -- `heading::read_heading` meets its contract: at each return the tests that led there say what the heading is.
 use Rattle.prelude.proofs.Kit.{false, _≡_, sym, _∙_, refl, ap, needs, not-false, not-true, now}
-use Rattle.records.specs.declared.heading.Heading.{Heading}
-use Rattle.records.specs.Codec.{mapOf, keysOf, mapUnknown, keysZero}
+use Rattle.records.specs.Codec.{mapOf, mapUnknown}
 use Rattle.records.specs.Heading.{heading}
 use Rattle.records.proofs.Decoding.{map-empty, map-unknown, map-known}
 use Rattle.records.proofs.Headings.{heading-refused, heading-read, keyless, keyless-set}

@@ -1,7 +1,6 @@
 -- `heading::with_maps` meets its contract: the place after the last field is the length.
 use Rattle.prelude.proofs.Kit.{ℕ, _∙_, ap, needs}
 use Rattle.prelude.specs.Refusals.{accepted}
-use Rattle.records.specs.declared.heading.Heading.{Heading}
 use Rattle.records.specs.declared.places.Places.{Places}
 use Rattle.records.specs.Places.{placesOf}
 use Rattle.records.proofs.Decoding.{end-is-size}

@@ -1,5 +1,5 @@
 -- `lines::write_request_lines` meets its contract: the lines that are left to write make the whole.
-use Rattle.prelude.proofs.Kit.{ℕ, _≤_, _+_, _-_, arith, List, _≡_, _∙_, ap, needs, now, length, drop, length-drop, drop-of-length-le}
+use Rattle.prelude.proofs.Kit.{ℕ, _≤_, _+_, _-_, arith, List, _≡_, _∙_, ap, needs, now, length, drop, drop-of-length-le}
 use Rattle.records.specs.declared.First.{First}
 use Rattle.records.proofs.ReadRuns.{rest-is}
 use Rattle.transcript.specs.Lines.{sentLines}
