@@ -1,16 +1,11 @@
 /* A tally of requests: how many request records a list has for each URL, and how many cookies they carry.
  * Link with libusage.a.
  *
- * A list is request records one right after another, without length bytes: for instance what monitor_feed wrote in a week, joined. A record is
- * a map byte and what it calls for (see Records in monitor.h). In hexadecimal:
- *     03   document request                 URL, connection
- *     07   document request with cookies    URL, connection, cookies
- *     0b   script request                   URL, connection, handler
- *     0f   script request with cookies      URL, connection, cookies, handler
- * URL (0 to 63), connection (0 to 31) and handler (0 to 15) have one byte each. Cookies are a key map byte, not 0, and then four bytes for each
- * bit that is set in it. So 07 02 00 05 00 00 00 07 00 00 00 09 is a document request to URL 2 on connection 0, and carries two cookies.
+ * A list is request records one right after another, without length bytes: for instance what monitor_feed wrote in a week, joined. What a
+ * request record is, monitor.h describes under Records. So, in hexadecimal, 03 05 00 07 02 00 05 00 00 00 07 00 00 00 09 is a document
+ * request to URL 5 on connection 0 without cookies, and one to URL 2 that carries two.
  *
- * Nothing is kept between calls and nothing is allocated. What a call costs is in docs/PERFORMANCE.md. */
+ * Nothing is kept between calls and nothing is allocated; a call takes less than 2 KiB of stack. What it costs is in docs/PERFORMANCE.md. */
 #ifndef USAGE_H
 #define USAGE_H
 
@@ -31,8 +26,8 @@ enum {
 /* The number of a tally. */
 enum usage_number {
     USAGE_ACCEPTED = 0,
-    /* the list has more than USAGE_LIST_BYTES bytes; or it is not wholly request records: a map byte is none of the four, a key map is 0, or the
-     * last record is cut; or a record has a URL above 63, a connection above 31 or a handler above 15 */
+    /* the list has more than USAGE_LIST_BYTES bytes; or it is not wholly request records: a map byte is no request's, a key map is 0, or the last
+     * record is cut; or a record has a URL above 63, a connection above 31 or a handler above 15 */
     USAGE_LIST_BAD = 13
 };
 

@@ -1,6 +1,6 @@
-/* Links libmonitor.a: how much stack one call takes. The call runs on a stack of its own that was painted before, so that what it wrote is
- * seen afterwards; the same call of a function that does nothing is taken off. Printed for the calls that could take most: the largest
- * output, the longest script, everything that is refused; and bounded, so that it is seen where it grows. */
+/* Links libmonitor.a and libusage.a: how much stack one call takes. The call runs on a stack of its own that was painted before, so that what
+ * it wrote is seen afterwards; the same call of a function that does nothing is taken off. Printed for the calls that could take most: the
+ * largest output, the longest script, everything that is refused, lists that are counted; and bounded, so that it is seen where it grows. */
 #define _XOPEN_SOURCE 700
 #include <stdbool.h>
 #include <stdio.h>
@@ -9,44 +9,59 @@
 #include <ucontext.h>
 
 #include "monitor.h"
+#include "usage.h"
 
-enum { STACK_BYTES = 64 * 1024, PAINT = 0x5a, MOST = 1024, SENDS = 0, REGISTERS = 1, WRITES = 2 };
+enum { STACK_BYTES = 64 * 1024, PAINT = 0x5a, MOST = 1024, MOST_COUNTING = 2 * 1024, SENDS = 0, REGISTERS = 1, WRITES = 2 };
 enum { STEPS = 32, STEP_BYTES = 4, KEYS = 8 };
 
+typedef void calls(void);
+typedef struct usage_tally counts(const uint8_t *, size_t);
 typedef struct monitor_answer feeds(const uint32_t *, size_t, const uint8_t *, size_t, uint32_t *, size_t, const uint8_t *, size_t, uint8_t *, size_t);
 
 static uint8_t stack[STACK_BYTES];
 static ucontext_t here, there;
-static feeds *function;
+static feeds *feeder;
+static counts *counter;
+static struct usage_tally tally;
 static uint32_t policy[MONITOR_POLICY_WORDS], state[MONITOR_STATE_WORDS];
 static uint8_t scripts[MONITOR_SCRIPT_BYTES], out[MONITOR_OUT_BYTES], record[MONITOR_LONGEST_RECORD];
 static size_t state_words, record_bytes, out_bytes;
 static struct monitor_answer answer;
 
-static struct monitor_answer nothing(const uint32_t *p, size_t pn, const uint8_t *c, size_t cn, uint32_t *s, size_t sn, const uint8_t *r, size_t rn,
-                                     uint8_t *o, size_t on)
+static struct monitor_answer feeds_nothing(const uint32_t *p, size_t pn, const uint8_t *c, size_t cn, uint32_t *s, size_t sn, const uint8_t *r, size_t rn,
+                                           uint8_t *o, size_t on)
 {
     (void)p, (void)pn, (void)c, (void)cn, (void)s, (void)sn, (void)r, (void)rn, (void)o, (void)on;
     return (struct monitor_answer){0, 0, 0};
 }
 
-static void call(void)
+static struct usage_tally counts_nothing(const uint8_t *r, size_t rn)
 {
-    answer = function(policy, MONITOR_POLICY_WORDS, scripts, sizeof scripts, state, state_words, record, record_bytes, out, out_bytes);
+    (void)r, (void)rn;
+    return (struct usage_tally){.number = 0};
+}
+
+static void count(void)
+{
+    tally = counter(record, record_bytes);
+}
+
+static void feed(void)
+{
+    answer = feeder(policy, MONITOR_POLICY_WORDS, scripts, sizeof scripts, state, state_words, record, record_bytes, out, out_bytes);
 }
 
 /* The bytes of the painted stack that the call wrote, or that lie above one that it wrote. */
-static size_t depth(feeds *called)
+static size_t depth(calls *called)
 {
     memset(stack, PAINT, sizeof stack);
-    function = called;
     if (getcontext(&there) != 0) {
         abort();
     }
     there.uc_stack.ss_sp = stack;
     there.uc_stack.ss_size = sizeof stack;
     there.uc_link = &here;
-    makecontext(&there, call, 0);
+    makecontext(&there, called, 0);
     if (swapcontext(&here, &there) != 0) {
         abort();
     }
@@ -93,17 +108,36 @@ static void respond(uint8_t script)
     record[record_bytes++] = script;
 }
 
+static void bound(const char *name, size_t taken, size_t most)
+{
+    printf("stack: %-44s %5zu bytes\n", name, taken);
+    if (taken > most) {
+        fprintf(stderr, "stack: %s: more than %zu bytes\n", name, most);
+        exit(EXIT_FAILURE);
+    }
+}
+
 static void measure(const char *name, uint32_t number, uint32_t bytes, uint32_t steps)
 {
-    size_t around = depth(nothing);
-    size_t taken = depth(monitor_feed) - around;
-    printf("stack: %-44s %5zu bytes\n", name, taken);
+    feeder = feeds_nothing;
+    size_t around = depth(feed);
+    feeder = monitor_feed;
+    bound(name, depth(feed) - around, MOST);
     if (answer.number != number || answer.bytes != bytes || answer.steps != steps) {
         fprintf(stderr, "stack: %s: answered %u %u %u\n", name, answer.number, answer.bytes, answer.steps);
         exit(EXIT_FAILURE);
     }
-    if (taken > MOST) {
-        fprintf(stderr, "stack: %s: more than %d bytes\n", name, MOST);
+}
+
+static void measure_count(const char *name, uint32_t number, uint32_t records)
+{
+    counter = counts_nothing;
+    size_t around = depth(count);
+    counter = usage_count;
+    count(); /* the dynamic linker finds memcpy at its first call, and takes stack for that */
+    bound(name, depth(count) - around, MOST_COUNTING);
+    if (tally.number != number || tally.all_records != records) {
+        fprintf(stderr, "stack: %s: counted %u %u\n", name, tally.number, tally.all_records);
         exit(EXIT_FAILURE);
     }
 }
@@ -128,5 +162,11 @@ int main(void)
     measure("refused: a state of no words", MONITOR_STATE_UNSOUND, 0, 0);
     out_bytes = 0;
     measure("refused at once: no output", MONITOR_OUTPUT_SHORT, 0, 0);
+    const uint8_t requests[8] = {0x03, 0, 0, 0x03, 1, 0, 0x03, 64};
+    memcpy(record, requests, sizeof requests);
+    record_bytes = 6;
+    measure_count("a list that is counted", USAGE_ACCEPTED, 2);
+    record_bytes = 8;
+    measure_count("a list that is refused", USAGE_LIST_BAD, 0);
     return EXIT_SUCCESS;
 }

@@ -1,4 +1,4 @@
-//! Measures the proved library beside `feed_fast` and `tally_fast`, the same functions tuned by hand in Rust.
+//! Measures the proved libraries beside plain Rust: `feed_fast`, the same function tuned by hand, and `tally_fast`, the same count in one pass.
 //!
 //! Prints what it measured. With `--write FOLDER` it also puts the tables into FOLDER/PERFORMANCE.md, between the two lines that mark their
 //! place, and writes the charts beside it.

@@ -9,7 +9,7 @@ use crate::tally;
 use crate::timing::{measure as time, Times};
 use crate::workload::{self, Session, Workload};
 
-/// What the proved library may take, for what the function tuned by hand takes: for a record, and for a list of requests.
+/// What the proved libraries may take, for what plain Rust takes: for a record, and for a list of requests.
 const BAR: f64 = 1.1;
 const LIST_BAR: f64 = 1.5;
 

@@ -1,4 +1,4 @@
-//! The proved library and the function tuned by hand take turns on the same input, round after round, and the best round of each counts.
+//! The proved library and plain Rust take turns on the same input, round after round, and the best round of each counts.
 
 use std::hint::black_box;
 use std::time::Instant;
@@ -37,7 +37,7 @@ fn by_hand(
     }
 }
 
-/// Nanoseconds for one call: the proved library's, and those of the function tuned by hand.
+/// Nanoseconds for one call: the proved library's, and those of plain Rust.
 #[derive(Clone, Copy, Debug)]
 pub struct Times {
     pub proved: f64,

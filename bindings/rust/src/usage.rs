@@ -20,7 +20,7 @@
 //! # Ok::<(), ListBad>(())
 //! ```
 //!
-//! Nothing is kept between calls and nothing is allocated. What a request record is, is described in `include/usage.h`.
+//! Nothing is kept between calls and nothing is allocated. What a request record is, is described in `include/monitor.h`.
 
 use core::fmt;
 

@@ -3,8 +3,8 @@
 //!
 //! [`feed`] follows the document rule by rule. [`feed_fast`] gives the same
 //! results without allocation and is tuned for speed. [`walk`] is the
-//! program walk. [`tally`] counts the requests of a list, [`tally_fast`] is
-//! the same tuned for speed, and [`tally_text`] is the program tally.
+//! program walk. [`tally`] counts the requests of a list, [`tally_fast`] does
+//! the same in one pass, and [`tally_text`] is the program tally.
 
 #![forbid(unsafe_code)]
 

@@ -1,8 +1,8 @@
 //! The tally in one pass and without allocation, written as the rules read:
 //! what the benchmark compares with.
 //!
-//! For speed the maps of requests are listed here again. Another kind of
-//! request is to be added.
+//! The maps of requests are listed here again: another kind of request must
+//! be added here too.
 
 use crate::layout::*;
 use crate::tally::{Tally, LIST_BYTES};

@@ -83,7 +83,7 @@ fn bad(list: &[u8], why: TallyEvent) {
     assert_eq!(seen, only, "{list:02x?}: {}", why.name());
 }
 
-/// A list with this record is turned away: alone, and between good requests of each kind, also in a run of them.
+/// A list with this record is turned away: alone, and between good requests of each kind, few and many.
 fn bad_anywhere(record: &[u8]) {
     assert_eq!(tally_both(record, &mut TallySeen::new()), turned_away());
     for kind in every_kind() {
@@ -519,7 +519,7 @@ fn damage_everywhere(list: &[u8]) {
 #[test]
 fn every_single_damage() {
     damage_everywhere(&every_kind().concat());
-    // Long enough for what is done with requests that are alike.
+    // Many that are alike.
     damage_everywhere(&DOCUMENT.repeat(25));
     damage_everywhere(&SCRIPT.repeat(12));
     damage_everywhere(&DOCUMENT_1.repeat(9));
