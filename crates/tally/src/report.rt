@@ -23,7 +23,9 @@ pub const REPORT_BYTES: usize = URL_ROWS * LINE_BYTES + LAST_BYTES;
 
 fn write_line(text: &mut [u8], at: usize, url: u32, records: u32, cookies: u32) -> usize
     requires { ⌜ at + lineRoom ≤ length (now text) ⌝ }
-    ensures { λ r. ⌜ Wrote (now (text .entry)) at (lineText (record { url = url; records = records; cookies = cookies })) (now (text .exit)) r ⌝ }
+    ensures { λ r. ⌜ Wrote (now (text .entry)) at
+        (lineText (record { url = url; records = records; cookies = cookies }))
+        (now (text .exit)) r ⌝ }
 {
     let at_records = write_number(text, at, url, b' ');
     write_pair(text, at_records, records, cookies)
@@ -32,7 +34,9 @@ fn write_line(text: &mut [u8], at: usize, url: u32, records: u32, cookies: u32) 
 // The line of a URL that has any request; of another, nothing.
 fn write_line_if_any(text: &mut [u8], at: usize, url: u32, records: u32, cookies: u32) -> usize
     requires { ⌜ at + lineRoom ≤ length (now text) ⌝ }
-    ensures { λ r. ⌜ Wrote (now (text .entry)) at (lineIfAny (record { url = url; records = records; cookies = cookies })) (now (text .exit)) r ⌝ }
+    ensures { λ r. ⌜ Wrote (now (text .entry)) at
+        (lineIfAny (record { url = url; records = records; cookies = cookies }))
+        (now (text .exit)) r ⌝ }
 {
     if records == 0 {
         return at;
