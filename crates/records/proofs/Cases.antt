@@ -1,12 +1,12 @@
 -- The worked cases hold: they are computed.
-use Rattle.prelude.specs.Choice.{branch}
+use Rattle.prelude.specs.Choice.{branch, every}
 use Rattle.prelude.specs.Refusals.{firstOf}
 use Rattle.records.specs.Bytes.{number}
 use Rattle.records.specs.Layout.{widths, start, size, split, values, fromValues}
 use Rattle.records.specs.Codec.{isOneOf, noKeySet, keysOf, mapUnknown, keysZero, lengthOther, readRefusal, fieldsOf, decoded}
-use Rattle.records.specs.Cases.{allZero, gives, allGive, MalformedRecords}
+use Rattle.records.specs.Cases.{gives, MalformedRecords}
 
 pub malformed-records : MalformedRecords
-unfolding branch firstOf number widths start size split values fromValues
-    isOneOf noKeySet keysOf mapUnknown keysZero lengthOther readRefusal fieldsOf decoded allZero gives allGive
+unfolding branch every firstOf number widths start size split values fromValues
+    isOneOf noKeySet keysOf mapUnknown keysZero lengthOther readRefusal fieldsOf decoded gives
 malformed-records = tt

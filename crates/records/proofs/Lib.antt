@@ -12,5 +12,5 @@ pub mod Encoding
 pub mod RoundTrips
 pub mod Carriable
 pub mod Runs
-pub mod Headings
+pub mod Headers
 pub mod ReadRuns

@@ -1,8 +1,9 @@
 -- Worked cases of decoding: how the kinds of malformed records are told apart.
 use Prim.Native.Nat.{ℕ}
-use mathlib.Core.Bool.{Bool, true, _&&_}
+use mathlib.Core.Bool.{Bool, _&&_}
 use mathlib.Core.List.{List, [], _∷_}
 use lib.Dec.{T, eqb}
+use Rattle.prelude.specs.Choice.{every}
 use Rattle.records.specs.declared.Direction.{Direction}
 use Rattle.records.specs.declared.Direction.the-variants.{Input, Request}
 use Rattle.records.specs.Layout.{values}
@@ -20,19 +21,11 @@ input bytes number = record { direction = Input; bytes = bytes; number = number 
 abbrev pub request : List ℕ → ℕ → Malformed
 request bytes number = record { direction = Request; bytes = bytes; number = number }
 
-unfoldable pub allZero : List ℕ → Bool
-allZero [] = true
-allZero (n ∷ ns) = eqb n 0 && allZero ns
-
 -- the number is as the case says, and every field is 0
 unfoldable pub gives : Malformed → Bool
 gives c =
     let read = decoded (c .direction) (c .bytes) in
-    eqb (read .number) (c .number) && allZero (read .fields .map ∷ values (read .fields))
-
-unfoldable pub allGive : List Malformed → Bool
-allGive [] = true
-allGive (c ∷ cs) = gives c && allGive cs
+    eqb (read .number) (c .number) && every (λ n. eqb n 0) (read .fields .map ∷ values (read .fields))
 
 abbrev pub malformedRecords : List Malformed
 malformedRecords =
@@ -65,4 +58,4 @@ malformedRecords =
     ∷ []
 
 abbrev pub MalformedRecords : Type 0
-MalformedRecords = T (allGive malformedRecords)
+MalformedRecords = T (every gives malformedRecords)

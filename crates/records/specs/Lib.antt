@@ -4,4 +4,4 @@ pub mod Codec
 pub mod Cases
 pub mod RoundTrips
 pub mod Places
-pub mod Heading
+pub mod Header

@@ -26,7 +26,8 @@ pub fn is_map(direction: Direction, map: u8) -> bool
             0x03 | 0x0b | 0x0f | 0x13 | 0x17 | 0x23 | 0x27 => true,
             _ => false,
         },
-        // document request and script request, each without cookies and with them
+        // document request and script request, each without cookies and with them; compared one by one, which tells the compiler which bits such a
+        // map has
         Direction::Request => (map == 0x03) | (map == 0x07) | (map == 0x0b) | (map == 0x0f),
     }
 }

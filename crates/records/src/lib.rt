@@ -5,7 +5,7 @@ ghost use Rattle.records.specs.Codec.{refused, decoded, first, decodedFi
 mod bytes;
 mod checks;
 mod fields;
-mod heading;
+mod header;
 pub mod map_bytes;
 mod places;
 
@@ -16,7 +16,7 @@ use checks::carriable;
 use checks::longest;
 use fields::read;
 use fields::write;
-use heading::read_heading;
+use header::read_header;
 pub use places::count_keys;
 
 // The numbers of what is accepted and of what encoding refuses.
@@ -87,16 +87,16 @@ fn refused(number: u32) -> Decoded
 pub fn decode(direction: Direction, bytes: &[u8]) -> Decoded
     ensures { λ r. ⌜ r ≡ decoded direction (now (bytes .entry)) ⌝ }
 {
-    let heading = read_heading(direction, bytes);
-    if heading.number != ACCEPTED {
-        return refused(heading.number);
+    let header = read_header(direction, bytes);
+    if header.number != ACCEPTED {
+        return refused(header.number);
     }
-    if bytes.len() != heading.length {
+    if bytes.len() != header.length {
         return refused(CUT_OR_TOO_LONG);
     }
     Decoded {
         number: ACCEPTED,
-        fields: read(heading.map, heading.keys, bytes),
+        fields: read(header.map, header.keys, bytes),
     }
 }
 
@@ -123,17 +123,17 @@ fn refused_first(number: u32) -> First
 pub fn decode_first(direction: Direction, bytes: &[u8]) -> First
     ensures { λ r. ⌜ r ≡ decodedFirst direction (now (bytes .entry)) ⌝ }
 {
-    let heading = read_heading(direction, bytes);
-    if heading.number != ACCEPTED {
-        return refused_first(heading.number);
+    let header = read_header(direction, bytes);
+    if header.number != ACCEPTED {
+        return refused_first(header.number);
     }
-    let length = heading.length;
+    let length = header.length;
     if bytes.len() < length {
         return refused_first(CUT_OR_TOO_LONG);
     }
     First {
         number: ACCEPTED,
-        fields: read(heading.map, heading.keys, &bytes[..length]),
+        fields: read(header.map, header.keys, &bytes[..length]),
         length,
     }
 }

@@ -15,14 +15,6 @@ use Rattle.usage.specs.Lines.{Line, hasAny, lines}
 abbrev pub lineText : Line → List ℕ
 lineText l = line (decimal (l .url) ∷ decimal (l .records) ∷ decimal (l .cookies) ∷ [])
 
--- room for it: three numbers of at most ten digits, each with the byte that ends it
-abbrev pub lineRoom : ℕ
-lineRoom = 33
-
--- nothing of a URL that has no request
-abbrev pub lineIfAny : Line → List ℕ
-lineIfAny l = branch (hasAny l) (lineText l) []
-
 unfoldable pub linesText : List Line → List ℕ
 linesText [] = []
 linesText (l ∷ ls) = lineText l ++ linesText ls
@@ -31,10 +23,6 @@ linesText (l ∷ ls) = lineText l ++ linesText ls
 abbrev pub lastLine : ℕ → ℕ → List ℕ
 lastLine records cookies = line ((0x61 ∷ 0x6c ∷ 0x6c ∷ []) ∷ decimal records ∷ decimal cookies ∷ [])
 
--- room for it: a word of three letters and two such numbers
-abbrev pub lastRoom : ℕ
-lastRoom = 26
-
 -- `bad`, of a list that is refused
 abbrev pub badLine : List ℕ
 badLine = line ((0x62 ∷ 0x61 ∷ 0x64 ∷ []) ∷ [])
@@ -42,10 +30,23 @@ badLine = line ((0x62 ∷ 0x61 ∷ 0x64 ∷ []) ∷ [])
 unfoldable pub report : Tally → List ℕ
 report t = cond (eqb (t .number) accepted) (linesText (lines t) ++ lastLine (t .«all_records») (t .«all_cookies»)) badLine
 
--- room for a line of each URL and the last one
-abbrev pub reportRoom : ℕ
-reportRoom = urlRows * lineRoom + lastRoom
-
 -- all that is printed of a list of requests
 abbrev pub printed : List ℕ → List ℕ
 printed requests = report (tallied requests)
+
+-- ---- for the contracts of the functions within the crate
+
+-- the line of a URL that has any request; of another, nothing
+abbrev pub lineIfAny : Line → List ℕ
+lineIfAny l = branch (hasAny l) (lineText l) []
+
+-- room for a line: three numbers of at most ten digits, each with the byte that ends it
+abbrev pub lineRoom : ℕ
+lineRoom = 33
+
+-- room for the last line: a word of three letters and two such numbers
+abbrev pub lastRoom : ℕ
+lastRoom = 26
+
+abbrev pub reportRoom : ℕ
+reportRoom = urlRows * lineRoom + lastRoom

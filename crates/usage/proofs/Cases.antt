@@ -1,5 +1,5 @@
 -- The worked cases hold: they are computed.
-use Rattle.prelude.specs.Choice.{branch, keep}
+use Rattle.prelude.specs.Choice.{branch, keep, every}
 use Rattle.prelude.specs.Lists.{numbers}
 use Rattle.prelude.specs.Refusals.{firstOf}
 use Rattle.records.specs.Bytes.{number}
@@ -8,12 +8,12 @@ use Rattle.records.specs.Codec.{isOneOf, noKeySet, keysOf, mapUnknown, keysZero
 use Rattle.machine.specs.Session.{has}
 use Rattle.machine.specs.Machine.{cookiesOf}
 use Rattle.machine.specs.Cases.{sameNumbers}
-use Rattle.usage.specs.Tally.{cookiesIn, requestsTo, urls, counts, allInRange, good, tallied}
+use Rattle.usage.specs.Tally.{cookiesIn, requestsTo, urls, counts, good, tallied}
 use Rattle.usage.specs.Lines.{linesOf}
-use Rattle.usage.specs.Cases.{numbersOf, gives, allGive, TallyCases}
+use Rattle.usage.specs.Cases.{numbersOf, gives, TallyCases}
 
 pub tally-cases : TallyCases
-unfolding branch keep numbers firstOf number widths start size split fromValues
+unfolding branch keep every numbers firstOf number widths start size split fromValues
     isOneOf noKeySet keysOf mapUnknown keysZero lengthOther readRefusal fieldsOf decoded firstRecord readAtMost readRun
-    has cookiesOf sameNumbers cookiesIn requestsTo urls counts allInRange good tallied linesOf numbersOf gives allGive
+    has cookiesOf sameNumbers cookiesIn requestsTo urls counts good tallied linesOf numbersOf gives
 tally-cases = tt

@@ -5,7 +5,7 @@ use mathlib.Core.Bool.{and-false}
 use lib.ListN.{replicate, length-replicate, getD-replicate}
 use lib.Seq.{getD-set-same, getD-set-other, ext-getD}
 use borrow.Author.Tests.{eqb-true}
-use Rattle.prelude.specs.Choice.{keep}
+use Rattle.prelude.specs.Choice.{keep, every}
 use Rattle.prelude.specs.Lists.{numbers}
 use Rattle.prelude.specs.Refusals.{accepted}
 use Rattle.records.specs.declared.Direction.the-variants.{Request}
@@ -109,7 +109,7 @@ module _ {requests : List ℕ} where
         × (carriedByUrl ≡ map (λ u. weight carried (requestsTo u (readRun Request requests .records))) urls)
         × (allRecords ≡ weight one (readRun Request requests .records))
         × (allCookies ≡ weight carried (readRun Request requests .records))
-    unfolding good allInRange
+    unfolding good every
     counting-ends h =
         let end : readRun Request left ≡ nothing [] = ap (readRun Request) (drop-of-length-le requests h) ∙ run-end Request in
         let records = counted-ends one (subst (λ (run : Run). Counted one (readRun Request requests .records) (run .records) byUrl allRecords) end (c .records)) in
@@ -148,7 +148,7 @@ module _ {requests : List ℕ} where
           none-carried (d .fields) (rw keys (omega (arith, e, size, first-size left first-ok)))
 
       good-next : good (readRun Request requests) ≡ eqb (length (readRun Request rest .left)) 0 && (inRange (d .fields) && allInRange (readRun Request rest .records))
-      unfolding good allInRange
+      unfolding good every
       good-next = sym (c .same) ∙ ap good next
 
       -- it is a request that is not in range

@@ -1,7 +1,7 @@
 -- Requests counted with a weight: 1 for each, or its cookies. What a list weighs is what the requests to each URL weigh together.
 use Rattle.prelude.proofs.Kit.{ℕ, _≤_, _<_, _+_, suc, zero, zero-add, arith, true, Bool, false, _&&_, cond, List, _∷_, [], map}
 use Rattle.prelude.proofs.Kit.{_≡_, _∙_, refl, ap, T, eqb, ltb, ltb→lt, and-l, and-r, length, getD, ne-eqb, eq-eqb, ℕ-discrete}
-use Rattle.prelude.specs.Choice.{branch, keep}
+use Rattle.prelude.specs.Choice.{branch, keep, every}
 use Rattle.prelude.specs.Lists.{numbers}
 use Rattle.prelude.proofs.Lists.{map-at}
 use Rattle.records.specs.declared.Record.{Record}
@@ -96,7 +96,7 @@ module _ (w : Record → ℕ) where
 
   -- those to each URL weigh together what the list weighs, where each is to some URL
   pub parts-weigh : (rs : List Record) → T (allInRange rs) → sum (map (λ u. weight w (requestsTo u rs)) urls) ≡ weight w rs
-  unfolding allInRange requestsTo keep
+  unfolding every requestsTo keep
   parts-weigh [] t = sum-none urls
   parts-weigh (r ∷ rs) t =
       let range = and-l (inRange r) (allInRange rs) t in

@@ -1,9 +1,10 @@
 -- Worked cases of the tally: lists with all that is answered.
 use Prim.Native.Nat.{ℕ}
-use mathlib.Core.Bool.{Bool, true, _&&_}
+use mathlib.Core.Bool.{Bool, _&&_}
 use mathlib.Core.List.{List, [], _∷_, _++_}
 use lib.Dec.{T}
 use lib.ListN.{replicate}
+use Rattle.prelude.specs.Choice.{every}
 use Rattle.records.specs.Layout.{sum}
 use Rattle.machine.specs.Cases.{sameNumbers}
 use Rattle.machine.specs.SecrecyExamples.{sentWithHidden}
@@ -36,10 +37,6 @@ gives c =
     && (sameNumbers (t .«all_records» ∷ t .«all_cookies» ∷ []) (c .totals)
     && sameNumbers (sum (t .records) ∷ sum (t .cookies) ∷ []) (c .totals)))
 
-unfoldable pub allGive : List Case → Bool
-allGive [] = true
-allGive (c ∷ cs) = gives c && allGive cs
-
 abbrev pub tallyCases : List Case
 tallyCases =
     -- no request; one without cookies; one of key map 07, whose cookies are counted singly
@@ -69,4 +66,4 @@ tallyCases =
     ∷ []
 
 abbrev pub TallyCases : Type 0
-TallyCases = T (allGive tallyCases)
+TallyCases = T (every gives tallyCases)

@@ -1,12 +1,12 @@
 -- The tally of requests (document 01, "A tally of requests"): of a list of request records one after another, how many each URL has and how many
 -- cookies they carry, and both in all.
 use Prim.Native.Nat.{ℕ, _<_}
-use mathlib.Core.Bool.{Bool, true, not, _&&_, cond}
+use mathlib.Core.Bool.{Bool, not, _&&_, cond}
 use mathlib.Core.List.{List, [], _∷_, map}
 use mathlib.Core.Path.{_≡_}
 use lib.Dec.{ltb, eqb}
 use lib.ListN.{length, replicate}
-use Rattle.prelude.specs.Choice.{keep}
+use Rattle.prelude.specs.Choice.{keep, every}
 use Rattle.prelude.specs.Lists.{numbers}
 use Rattle.prelude.specs.Refusals.{accepted, Refusal, refuse, firstOf}
 use Rattle.records.specs.declared.Direction.the-variants.{Request}
@@ -48,9 +48,8 @@ counts rs = record {
 abbrev pub inRange : Record → Bool
 inRange r = ltb (r .url) urlRows && (isConnection (r .connection) && isScript (r .script))
 
-unfoldable pub allInRange : List Record → Bool
-allInRange [] = true
-allInRange (r ∷ rs) = inRange r && allInRange rs
+abbrev pub allInRange : List Record → Bool
+allInRange rs = every inRange rs
 
 -- the longest list
 abbrev pub listBytes : ℕ

@@ -1,11 +1,11 @@
--- `heading::with_maps` meets its contract: the place after the last field is the length.
+-- `header::with_maps` meets its contract: the place after the last field is the length.
 use Rattle.prelude.proofs.Kit.{ℕ, _∙_, ap, needs}
 use Rattle.prelude.specs.Refusals.{accepted}
 use Rattle.records.specs.declared.places.Places.{Places}
 use Rattle.records.specs.Places.{placesOf}
 use Rattle.records.proofs.Decoding.{end-is-size}
-use Rattle.records.proofs.heading.with_maps.Statement.{statement}
-use Rattle.records.proofs.heading.with_maps.Tie as tie
+use Rattle.records.proofs.header.with_maps.Statement.{statement}
+use Rattle.records.proofs.header.with_maps.Tie as tie
 
 returns : tie.Need-returns
 unfolding placesOf

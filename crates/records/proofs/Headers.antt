@@ -1,4 +1,4 @@
--- What a heading says of decoding, and that the first record of some bytes has the heading of the bytes.
+-- What a header says of decoding, and that the first record of some bytes has the header of the bytes.
 use Rattle.prelude.proofs.Kit.{ℕ, _≤_, _<_, _+_, suc, zero, not-suc-le-zero, le-of-suc-le-suc, arith, true, false, Bool, _&&_, List, _∷_, []}
 use Rattle.prelude.proofs.Kit.{_≡_, sym, _∙_, refl, ap, ap₂, T, eqb, ltb, eqb→eq, length, take, drop, and-l, ne-eqb, lt-ltb, subst}
 use Rattle.prelude.proofs.Kit.{zero-lt-suc, eqb·suc-zero, take-all, length-take-le}
@@ -7,11 +7,11 @@ use mathlib.Core.Bool.{and-false}
 use Rattle.prelude.specs.Refusals.{accepted, firstOf}
 use Rattle.prelude.proofs.Refusals.{NoneOf, nth, first-is, none-applies, none-applied, in-a-row, refused-on, number-of}
 use Rattle.records.specs.declared.Direction.{Direction}
-use Rattle.records.specs.declared.heading.Heading.{Heading}
+use Rattle.records.specs.declared.header.Header.{Header}
 use Rattle.records.specs.Bytes.{bit, number}
 use Rattle.records.specs.Layout.{cookiesBit, start, keyMapAt, widths, size}
 use Rattle.records.specs.Codec.{cutOrTooLong, refused, noKeySet, mapOf, keysOf, mapUnknown, keysZero, readRefusals, readRefusal, fieldsOf, decoded, firstRecord, first, decodedFirst}
-use Rattle.records.specs.Heading.{unread, heading, mapRefusals, headingOf}
+use Rattle.records.specs.Header.{unread, header, mapRefusals, headerOf}
 use Rattle.records.proofs.Decoding.{refused-by, length-other, length-right, decoded-accepted}
 use Rattle.records.proofs.Slices.{number-none}
 use Rattle.records.proofs.Values.{keys-read}
@@ -19,21 +19,21 @@ use Rattle.records.proofs.Writing.{size-split, front-end}
 
 module _ (d : Direction) (bytes : List ℕ) where
   -- refusal n of the maps, where it is the first that applies
-  pub heading-refused : (n : ℕ) → NoneOf (take n (mapRefusals d bytes)) → nth accepted n (mapRefusals d bytes) .applies ≡ true
-      → eqb (nth accepted n (mapRefusals d bytes) .answer) accepted ≡ false → unread (nth accepted n (mapRefusals d bytes) .answer) ≡ headingOf d bytes
-  unfolding headingOf
-  heading-refused n none e refuses = rw (first-is accepted n (mapRefusals d bytes) none e, refuses)
+  pub header-refused : (n : ℕ) → NoneOf (take n (mapRefusals d bytes)) → nth accepted n (mapRefusals d bytes) .applies ≡ true
+      → eqb (nth accepted n (mapRefusals d bytes) .answer) accepted ≡ false → unread (nth accepted n (mapRefusals d bytes) .answer) ≡ headerOf d bytes
+  unfolding headerOf
+  header-refused n none e refuses = rw (first-is accepted n (mapRefusals d bytes) none e, refuses)
 
-  pub heading-read : mapUnknown d bytes ≡ false → keysZero bytes ≡ false → heading (mapOf bytes) (keysOf bytes) ≡ headingOf d bytes
-  unfolding headingOf
-  heading-read known keyed = rw (none-applies accepted (mapRefusals d bytes) (known, (keyed, tt)))
+  pub header-read : mapUnknown d bytes ≡ false → keysZero bytes ≡ false → header (mapOf bytes) (keysOf bytes) ≡ headerOf d bytes
+  unfolding headerOf
+  header-read known keyed = rw (none-applies accepted (mapRefusals d bytes) (known, (keyed, tt)))
 
-  number-is : headingOf d bytes .number ≡ firstOf (mapRefusals d bytes) accepted
-  unfolding headingOf
-  number-is = number-of (λ (h : Heading). h .number) (heading (mapOf bytes) (keysOf bytes)) unread (firstOf (mapRefusals d bytes) accepted) refl refl
+  number-is : headerOf d bytes .number ≡ firstOf (mapRefusals d bytes) accepted
+  unfolding headerOf
+  number-is = number-of (λ (h : Header). h .number) (header (mapOf bytes) (keysOf bytes)) unread (firstOf (mapRefusals d bytes) accepted) refl refl
 
   -- what the maps refuse decoding refuses
-  pub refuses : (headingOf d bytes .number ≡ accepted → ⊥) → refused (headingOf d bytes .number) ≡ decoded d bytes
+  pub refuses : (headerOf d bytes .number ≡ accepted → ⊥) → refused (headerOf d bytes .number) ≡ decoded d bytes
   unfolding decoded readRefusal
   refuses ne =
       let other : firstOf (mapRefusals d bytes) accepted ≡ accepted → ⊥ = λ e. ne (number-is ∙ e) in
@@ -41,13 +41,13 @@ module _ (d : Direction) (bytes : List ℕ) where
       in-a-row accepted (mapRefusals d bytes) (drop 2 (readRefusals d bytes)) ∙ refused-on (mapRefusals d bytes) (firstOf (drop 2 (readRefusals d bytes)) accepted) other in
       rw (number-is, same, ne-eqb (firstOf (mapRefusals d bytes) accepted) accepted other)
 
-  -- and where they refuse nothing the heading has them
-  module _ (e : headingOf d bytes .number ≡ accepted) where
+  -- and where they refuse nothing the header has them
+  module _ (e : headerOf d bytes .number ≡ accepted) where
     pub passed : NoneOf (mapRefusals d bytes)
     passed = none-applied (mapRefusals d bytes) tt (sym number-is ∙ e)
 
-    pub has-maps : headingOf d bytes ≡ heading (mapOf bytes) (keysOf bytes)
-    has-maps = sym (heading-read (passed .0) (passed .1 .0))
+    pub has-maps : headerOf d bytes ≡ header (mapOf bytes) (keysOf bytes)
+    has-maps = sym (header-read (passed .0) (passed .1 .0))
 
     -- then the length decides
     pub other-length : (length bytes ≡ size (mapOf bytes) (keysOf bytes) → ⊥) → refused cutOrTooLong ≡ decoded d bytes
@@ -150,10 +150,10 @@ module _ (bytes : List ℕ) where
       go false e = and-false (ltb (keyMapAt (mapOf bytes)) (length (firstRecord bytes))) ∙ sym (and-false (ltb (keyMapAt (mapOf bytes)) (length bytes)))
       go true e = ap (λ (b : Bool). b && true) (key-map-in-front (carries-cookies (mapOf bytes) (keysOf bytes) e))
 
-  -- the first record has the heading of the bytes
-  first-heading : (d : Direction) → headingOf d (firstRecord bytes) ≡ headingOf d bytes
-  unfolding headingOf
-  first-heading d = rw (first-unknown d, first-keyed, first-map, first-keys)
+  -- the first record has the header of the bytes
+  first-header : (d : Direction) → headerOf d (firstRecord bytes) ≡ headerOf d bytes
+  unfolding headerOf
+  first-header d = rw (first-unknown d, first-keyed, first-map, first-keys)
 
   -- ---- decoding it
   module _ (d : Direction) where
@@ -161,14 +161,14 @@ module _ (bytes : List ℕ) where
     unfolding decodedFirst
     first-refused n refuses e = rw (← e, refuses)
 
-    pub maps-refuse : (headingOf d bytes .number ≡ accepted → ⊥) → first (refused (headingOf d bytes .number)) 0 ≡ decodedFirst d bytes
+    pub maps-refuse : (headerOf d bytes .number ≡ accepted → ⊥) → first (refused (headerOf d bytes .number)) 0 ≡ decodedFirst d bytes
     maps-refuse ne =
-        first-refused (headingOf d bytes .number) (ne-eqb (headingOf d bytes .number) accepted ne)
-        (rw (first-heading d) at (refuses d (firstRecord bytes) (rw (first-heading d) ne)))
+        first-refused (headerOf d bytes .number) (ne-eqb (headerOf d bytes .number) accepted ne)
+        (rw (first-header d) at (refuses d (firstRecord bytes) (rw (first-header d) ne)))
 
-    module _ (e : headingOf d bytes .number ≡ accepted) where
-      same : headingOf d (firstRecord bytes) .number ≡ accepted
-      same = ap (λ (h : Heading). h .number) (first-heading d) ∙ e
+    module _ (e : headerOf d bytes .number ≡ accepted) where
+      same : headerOf d (firstRecord bytes) .number ≡ accepted
+      same = ap (λ (h : Header). h .number) (first-header d) ∙ e
 
       pub first-cut : length bytes < called → first (refused cutOrTooLong) 0 ≡ decodedFirst d bytes
       unfolding firstRecord

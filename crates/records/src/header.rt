@@ -1,6 +1,6 @@
-// The heading of a record: its maps, and how many bytes they call for.
+// The header of a record: its maps, and how many bytes they call for.
 ghost use mathlib.Core.Path.{_≡_};
-ghost use Rattle.records.specs.Heading.{unread, heading, headingOf};
+ghost use Rattle.records.specs.Header.{unread, header, headerOf};
 use super::ACCEPTED;
 use super::Direction;
 use super::KEY_MAP_EMPTY;
@@ -13,17 +13,17 @@ use super::places::COOKIES;
 use super::places::Places;
 
 // 0, the map, the key map and the length that they call for; or the number of what the maps refuse, and zeros.
-pub struct Heading {
+pub struct Header {
     pub number: u32,
     pub map: u8,
     pub keys: u8,
     pub length: usize,
 }
 
-fn unread(number: u32) -> Heading
+fn unread(number: u32) -> Header
     ensures { λ r. ⌜ r ≡ unread number ⌝ }
 {
-    Heading {
+    Header {
         number,
         map: 0,
         keys: 0,
@@ -31,10 +31,10 @@ fn unread(number: u32) -> Heading
     }
 }
 
-fn with_maps(map: u8, keys: u8) -> Heading
-    ensures { λ r. ⌜ r ≡ heading map keys ⌝ }
+fn with_maps(map: u8, keys: u8) -> Header
+    ensures { λ r. ⌜ r ≡ header map keys ⌝ }
 {
-    Heading {
+    Header {
         number: ACCEPTED,
         map,
         keys,
@@ -42,9 +42,9 @@ fn with_maps(map: u8, keys: u8) -> Heading
     }
 }
 
-// Reads the heading at the front of some bytes. A record without cookies, the common case, is told at once.
-pub fn read_heading(direction: Direction, bytes: &[u8]) -> Heading
-    ensures { λ r. ⌜ r ≡ headingOf direction (now (bytes .entry)) ⌝ }
+// Reads the header at the front of some bytes. A record without cookies, the common case, is told at once.
+pub fn read_header(direction: Direction, bytes: &[u8]) -> Header
+    ensures { λ r. ⌜ r ≡ headerOf direction (now (bytes .entry)) ⌝ }
 {
     if bytes.len() == 0 {
         return unread(KIND_UNKNOWN); // there is no map
