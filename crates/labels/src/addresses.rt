@@ -3,6 +3,9 @@ ghost use mathlib.Core.Path.{_≡_};
 ghost use Rattle.labels.specs.Addresses.{messageSet, eventSet};
 use super::EndpointSet;
 
+// The http addresses are the hosts, 0 to 15, and the https addresses follow in the same order.
+pub const HOSTS: u32 = 16;
+
 // The two tables. The compiler lays out a `match` of constants as a table in read-only memory, while a constant array would be put together on
 // the stack wherever it is looked into.
 fn message_table(address: u32) -> u32

@@ -10,7 +10,7 @@ use labels::EndpointSet;
 
 pub const URL_ROWS: usize = 64;
 
-pub const HOSTS: usize = 16;
+pub const HOSTS: usize = labels::addresses::HOSTS as usize;
 
 // The keys of a host's cookies are below this.
 pub const HOST_KEYS: usize = 8;
