@@ -1,5 +1,5 @@
-/* Links libmonitor.a: document 01's small post case by case, a script that is stopped on one connection and goes on on another, every wrong
- * length of every buffer, null pointers, and random records. Every call is checked for what it must leave alone. */
+/* Links libmonitor.a: document 01's small post case by case, a script that is stopped on one connection and goes on on another, the endpoints of
+ * every address, every wrong length of every buffer, null pointers, and random records. Every call is checked for what it must leave alone. */
 #include <inttypes.h>
 #include <stdbool.h>
 #include <stdio.h>
@@ -230,6 +230,145 @@ static void scripts(void)
     }
 }
 
+/* ---- the endpoints of an address: each question that is about one, asked of a set that has one endpoint */
+
+enum { READERS, SCRIPT_READERS, WRITERS };
+
+/* A URL with its address and what its endpoints should be; another URL, that a redirect or a script comes from; a connection that awaits a
+ * document, and a free one. */
+struct asked {
+    uint32_t address;
+    uint8_t message, event, url, from, awaiting, free;
+};
+
+static uint32_t *connection_sets(uint8_t connection)
+{
+    return lent.policy + 448 + 3u * connection;
+}
+
+/* Everyone reads and writes the two URLs; no one reads the two connections, and everyone writes them. */
+static void open_post(const struct asked *a, uint32_t from_address, uint8_t awaited)
+{
+    small_post();
+    for (size_t row = 0; row < 4; row++) {
+        set_words(lent.policy, 3 * row, 3, (const uint32_t[]){255, 0, 0});
+    }
+    set_words(lent.policy, 3u * a->url, 3, (const uint32_t[]){a->address, UINT32_MAX, UINT32_MAX});
+    set_words(lent.policy, 3u * a->from, 3, (const uint32_t[]){from_address, UINT32_MAX, UINT32_MAX});
+    set_words(connection_sets(a->awaiting), 0, 3, (const uint32_t[]){0, 0, UINT32_MAX});
+    set_words(connection_sets(a->free), 0, 3, (const uint32_t[]){0, 0, UINT32_MAX});
+    lent.state[144 + a->awaiting] = 1u << 24 | awaited;
+}
+
+/* Loads the URL on the free connection. */
+static void load_gives(const char *name, const struct asked *a, bool accepted, uint32_t number)
+{
+    const uint8_t load[] = {0x03, a->url, a->free};
+    gives(name, load, sizeof load, accepted ? ACCEPTED(3, 0) : REFUSED(number), load);
+}
+
+/* A row is well formed with its event endpoint alone as reader. */
+static void ask_row(const struct asked *a, uint8_t endpoint)
+{
+    open_post(a, 0, a->from);
+    lent.policy[3u * a->url + 1] = 1u << endpoint;
+    load_gives("a row's event endpoint", a, endpoint == a->event, MONITOR_POLICY_BAD);
+}
+
+/* A load, and a connection that awaits the URL, want the message endpoint among the connection's writers. */
+static void ask_fit(const struct asked *a, uint8_t endpoint)
+{
+    open_post(a, 0, a->from);
+    connection_sets(a->free)[WRITERS] = 1u << endpoint;
+    load_gives("a load's message endpoint", a, endpoint == a->message, MONITOR_WRITERS_FORBID);
+    open_post(a, 0, a->url);
+    connection_sets(a->awaiting)[WRITERS] = 1u << endpoint;
+    load_gives("an awaited URL's message endpoint", a, endpoint == a->message, MONITOR_STATE_UNSOUND);
+}
+
+/* A redirect wants the event endpoint among the connection's readers, and the message endpoint among its writers. */
+static void ask_redirect(const struct asked *a, uint8_t endpoint)
+{
+    const uint8_t request[] = {0x03, a->url, a->awaiting};
+    open_post(a, 0, a->from);
+    connection_sets(a->awaiting)[READERS] = 1u << endpoint;
+    gives("a redirect's event endpoint", BYTES(0x23, a->from, a->awaiting, a->url),
+          endpoint == a->event ? ACCEPTED(3, 0) : REFUSED(MONITOR_READERS_FORBID), request);
+    open_post(a, endpoint, a->from);
+    connection_sets(a->awaiting)[READERS] = 1u << a->event;
+    connection_sets(a->awaiting)[WRITERS] = 1u << endpoint;
+    gives("a redirect's message endpoint", BYTES(0x23, a->from, a->awaiting, a->url),
+          endpoint == a->message ? ACCEPTED(3, 0) : REFUSED(MONITOR_WRITERS_FORBID), request);
+}
+
+/* A script that requests the URL wants the event endpoint among its own readers, and the message endpoint among the free connection's writers. */
+static void ask_script(const struct asked *a, uint8_t endpoint)
+{
+    const uint8_t step[] = {5, a->url, a->free, 0}, request[] = {0x0b, a->url, a->free, 0};
+    uint32_t *const sets = connection_sets(a->awaiting);
+    open_post(a, 0, a->from);
+    memcpy(lent.scripts, step, sizeof step);
+    sets[READERS] = sets[SCRIPT_READERS] = 1u << endpoint;
+    gives("a script's event endpoint", BYTES(0x0b, a->from, a->awaiting, 0), endpoint == a->event ? ACCEPTED(4, 2) : ACCEPTED(0, 1), request);
+    open_post(a, endpoint, a->from);
+    memcpy(lent.scripts, step, sizeof step);
+    sets[READERS] = sets[SCRIPT_READERS] = 1u << a->event;
+    sets[WRITERS] = connection_sets(a->free)[WRITERS] = 1u << endpoint;
+    gives("a script's message endpoint", BYTES(0x0b, a->from, a->awaiting, 0), endpoint == a->message ? ACCEPTED(4, 2) : ACCEPTED(0, 1), request);
+}
+
+/* A request carries a cookie of the URL's host whose readers have the message endpoint. */
+static void ask_cookie(const struct asked *a, uint8_t endpoint)
+{
+    const bool carried = endpoint == a->message;
+    open_post(a, 0, a->from);
+    lent.policy[192 + 16u * a->event] = 1u << endpoint;
+    lent.state[8u * a->event] = 7;
+    lent.state[128 + a->event] = 1;
+    gives("a cookie's message endpoint", BYTES(0x03, a->url, a->free), ACCEPTED(carried ? 8 : 3, 0),
+          (const uint8_t[]){carried ? 0x07 : 0x03, a->url, a->free, 0x01, 0, 0, 0, 7});
+}
+
+/* Rows and connections at each place of a group: the compiler makes code for each. */
+static void ask_all(uint8_t address, uint8_t message, uint8_t event)
+{
+    struct asked a = {.address = address, .message = message, .event = event};
+    for (uint8_t place = 0; place < 8; place++) {
+        a.url = (uint8_t)(8 * ((address + place) % 8) + place);
+        a.from = 63 - a.url;
+        a.awaiting = place;
+        a.free = 31 - place;
+        for (uint8_t endpoint = 0; endpoint < 32; endpoint++) {
+            ask_row(&a, endpoint);
+            ask_fit(&a, endpoint);
+            ask_redirect(&a, endpoint);
+            ask_script(&a, endpoint);
+            ask_cookie(&a, endpoint);
+        }
+    }
+}
+
+static void endpoints(void)
+{
+    for (uint8_t host = 0; host < 16; host++) {
+        const uint8_t http = host, https = 16 + host;
+        ask_all(http, http, http);
+        ask_all(https, https, http);
+    }
+}
+
+/* A row whose address is above 31 is refused, though everyone reads it; one that a narrower type would turn into an address, too. */
+static void no_addresses(void)
+{
+    for (uint32_t high = 32; high != 0; high <<= 1) {
+        for (uint32_t low = 0; low < 32; low++) {
+            const struct asked a = {.address = high + low, .url = 1, .from = 0, .awaiting = 0, .free = 1};
+            open_post(&a, 0, 0);
+            gives("an address above 31", BYTES(0x03, 0, 1), REFUSED(MONITOR_POLICY_BAD), NOTHING);
+        }
+    }
+}
+
 /* ---- wrong lengths */
 
 /* Every length of one buffer from none to SPARE more than right, of a call that is accepted at the right one. */
@@ -344,9 +483,13 @@ int main(void)
     cookies();
     malformed();
     scripts();
+    endpoints();
+    no_addresses();
     wrong_lengths();
     null_pointers();
     random_records();
-    printf("monitor: cases a to j, the script in two connections, every wrong length, null pointers agree, and random records touch nothing else: %lu calls\n", calls);
+    printf("monitor: cases a to j, the script in two connections, the endpoints of every address, every wrong length, null pointers agree, "
+           "and random records touch nothing else: %lu calls\n",
+           calls);
     return 0;
 }
