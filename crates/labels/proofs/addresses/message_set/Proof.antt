@@ -6,13 +6,13 @@ use Rattle.labels.specs.Addresses.{messageSet}
 use Rattle.labels.proofs.addresses.message_set.Statement.{statement}
 use Rattle.labels.proofs.addresses.message_set.Tie as tie
 
-asked-once : (b : Bool) (x y : ℕ) → cond b x y ≡ cond b (cond b x y) y
-asked-once true x y = refl
-asked-once false x y = refl
+cond-idempotent : (b : Bool) (x y : ℕ) → cond b x y ≡ cond b (cond b x y) y
+cond-idempotent true x y = refl
+cond-idempotent false x y = refl
 
 singleton : (address : ℕ) → only address ≡ messageSet address
 unfolding messageSet only
-singleton address = asked-once (ltb address endpoints) (2 ^ address) empty
+singleton address = cond-idempotent (ltb address endpoints) (2 ^ address) empty
 
 returns : tie.Need-returns
 returns c = rw (← singleton (c .before .args .address)) (c .only .ensures .0)
