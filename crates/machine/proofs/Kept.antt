@@ -1,23 +1,22 @@
 -- What the machine keeps through stores, requests, script steps and events: a sound state, Q of each cookie value and register, and R of each
 -- request that is sent; and how many requests there are at most. Sound states and the sizes of words are two instances.
-use Rattle.prelude.proofs.Kit.{ℕ, _≤_, _<_, _+_, suc, _^_, zero, _*_, zero-le, _%_, arith, _&&_, false, List, _∷_, [], subst, T, eqb}
+use Rattle.prelude.proofs.Kit.{ℕ, _≤_, _<_, _+_, suc, _^_, zero, _*_, zero-le, _%_, arith, _&&_, List, _∷_, [], T}
 use Rattle.prelude.proofs.Kit.{eqb→eq, ltb→lt, length, getD, set, length-append}
 use lib.Dec.{lit≤}
 use Rattle.prelude.proofs.Choices.{parts, joined, one}
 use Rattle.labels.specs.Addresses.{hosts}
-use Rattle.labels.proofs.Below.{or-l}
 use Rattle.records.specs.declared.Direction.the-variants.{Input}
 use Rattle.records.specs.declared.Record.{Record}
 use Rattle.records.specs.Layout.{keyNumbers}
 use Rattle.records.specs.Codec.{decoded}
 use Rattle.machine.specs.Policy.{hostKeys, connections, cookieIndex, urlHost, isUrl, isConnection, fits, maySend, loadReaders, loadWriters, redirectReaders, redirectWriters}
-use Rattle.machine.specs.Session.{presenceAt, cookieValue, connectionWord, free, documentKind, scriptKind, packed, kindOf, originOf, handlerOf, urlOf, urlSound, Cookie, setCookie, storeCookie, storeCookies, setConnection, request, Effects, send}
-use Rattle.machine.specs.Scripts.{stepLimit, scriptAt, Step, end, constant, add, readCookie, writeCookie, sendRequest, skipIfZero, stepOf, stepAt, Progress, register, isScript, ended, goesOn, goesOnAfter, step, stopped, followed, runFrom, startingWith, runScript}
+use Rattle.machine.specs.Session.{presenceAt, cookieValue, connectionWord, free, documentKind, scriptKind, packed, kindOf, originOf, handlerOf, urlOf, kindSound, urlSound, Cookie, setCookie, storeCookie, storeCookies, setConnection, request, Effects, send}
+use Rattle.machine.specs.Scripts.{stepLimit, scriptAt, Step, end, constant, add, readCookie, writeCookie, sendRequest, skipIfZero, stepOf, stepAt, Progress, register, isScript, ended, goesOn, goesOnAfter, requested, step, stopped, followed, runFrom, startingWith, runScript}
 use Rattle.machine.specs.Machine.{Arrived, DocumentResponse, ScriptResponse, Redirect, Event, Load, Arrival, carriesNames, named, pending, ofKind, awaited, ofTarget, readersAllow, writersAllow, receive, perform}
 use Rattle.machine.proofs.Lists.{Each, each-append, each-set, each-at}
 use Rattle.machine.proofs.Accepted.{eventIn, Passed}
 use Rattle.machine.proofs.Events.{KeysBelow, EventKeys, event-keys, EventCookies, event-cookies, ArrivedValue, EventValue, event-value}
-use Rattle.machine.proofs.SoundStates.{Sound, sound-of, cookie-kept, connection-kept, connection-freed, openFields, word-fields, fields-word, fields-moved}
+use Rattle.machine.proofs.SoundStates.{Sound, sound-of, cookie-kept, connection-kept, connection-freed, openFields, word-fields, script-fields, fields-word, fields-moved}
 
 -- Q and R that are kept: Q of 0 and of a sum, R of a request on an open connection
 pub record Keeps (p : List ℕ) (Q : ℕ → Type 0) (R : Record → Type 0) : Type 0 where
@@ -84,15 +83,22 @@ module _ (p : List ℕ) (Q : ℕ → Type 0) (R : Record → Type 0) (laws : Kee
       unfolding goesOn
       goes = (all, good, tt, zero-le)
 
-      sends : (u m h : ℕ) → T (isUrl p u && (isConnection m && (isScript h && maySend p n u m))) → Going p Q R (goesOnAfter i rs (send p m scriptKind page h u s))
+      -- a request of a kind whose origin and handler are right where the handler is a script
+      sends : (k o h u m : ℕ) → (T (isScript h) → T (kindSound p k o h)) → T (isUrl p u && (isConnection m && (isScript h && maySend p n u m)))
+          → Going p Q R (goesOnAfter (suc i) rs (send p m k o h u s))
       unfolding goesOnAfter urlSound maySend
-      sends u m h t =
+      sends k o h u m right t =
+          let kind = right (search parts) in
           let fit : T (fits p m u) = search parts depth 7 in
-          let e = send-kept m scriptKind page h u 1 (lit≤ tt) (ltb→lt m connections (search parts)) (search joined) s good in
+          let e = send-kept m k o h u 1 (lit≤ tt) (ltb→lt m connections (search parts)) (search joined) s good in
           (all, e .0, e .1, e .2)
 
+      requests : (k o h u m : ℕ) → (T (isScript h) → T (kindSound p k o h)) → Going p Q R (requested p n k o h u m i rs s)
+      unfolding requested
+      requests k o h u m right = one (Going p Q R) _ (sends k o h u m right) (λ _. ends)
+
     step-kept : (st : Step) → StepValue Q st → (i : ℕ) (rs s : List ℕ) → Each Q rs → Sound p Q s → Going p Q R (step p n page st i rs s)
-    unfolding step
+    unfolding step kindSound
     step-kept end q i rs s all good = ends i rs s all good
     step-kept (constant a v) q i rs s all good =
         one (Going p Q R) _ (λ _. goes (suc i) (set rs a v) s (each-set Q rs a v q all) good) (λ _. ends i rs s all good)
@@ -113,7 +119,7 @@ module _ (p : List ℕ) (Q : ℕ → Type 0) (R : Record → Type 0) (laws : Kee
         (λ _. goes (suc i) rs (setCookie h k v s) all (cookie-kept p Q s good h k v (omega arith) (ltb→lt k hostKeys (search parts)) (each-at Q 0 (laws .none) rs all b)))
         (λ _. goes (suc i) rs s all good))
         (λ _. ends i rs s all good)
-    step-kept (sendRequest u m h) q i rs s all good = one (Going p Q R) _ (sends (suc i) rs s all good u m h) (λ _. ends i rs s all good)
+    step-kept (sendRequest u m h) q i rs s all good = requests i rs s all good scriptKind page h u m (λ handler. search joined)
     step-kept (skipIfZero a b) q i rs s all good =
         one (Going p Q R) _ (λ _. one (Going p Q R) _ (λ _. goes (suc i + b) rs s all good) (λ _. goes (suc i) rs s all good)) (λ _. ends i rs s all good)
 
@@ -131,9 +137,6 @@ module _ (p : List ℕ) (Q : ℕ → Type 0) (R : Record → Type 0) (laws : Kee
         (λ _. stops (suc fuel) s good)
 
   -- ---- an event that passes the tests
-  script-origin : (n k o h u : ℕ) → T (openFields p n k o h u) → T (eqb k scriptKind) → T (isUrl p o)
-  script-origin n k o h u t e = let t = subst (λ (x : ℕ). T (openFields p n x o h u)) (eqb→eq k scriptKind e) t in search parts
-
   module _ (scripts : List ℕ) (table : TableValues Q scripts) (s : List ℕ) (good : Sound p Q s) where
     -- a response: cookies are stored, the connection is freed, a script runs
     response-kept : (u n : ℕ) (cs : List Cookie) (page x v : ℕ) → n < connections → KeysBelow cs → Each (λ (c : Cookie). Q (c .value)) cs → T (isUrl p page) → Q v
@@ -157,7 +160,7 @@ module _ (p : List ℕ) (Q : ℕ → Type 0) (R : Record → Type 0) (laws : Kee
     receive-kept u n cs (ScriptResponse v) url l names waits kind r w keys values q =
         let word = connectionWord s n in
         let t = word-fields p n word (good .words n l) (search parts) in
-        response-kept u n cs (originOf word) (handlerOf word) v l keys values (script-origin n (kindOf word) (originOf word) (handlerOf word) (urlOf word) t kind) q
+        response-kept u n cs (originOf word) (handlerOf word) v l keys values (script-fields p (kindOf word) (originOf word) (handlerOf word) (search parts) kind .0) q
     receive-kept u n cs (Redirect v) url l names waits kind r w keys values q =
         let word = connectionWord s n in
         let t = word-fields p n word (good .words n l) (search parts) in
@@ -166,9 +169,9 @@ module _ (p : List ℕ) (Q : ℕ → Type 0) (R : Record → Type 0) (laws : Kee
 
     perform-kept : (e : Event) → T (named p e) → T (awaited s e) → T (readersAllow p e) → T (writersAllow p e)
         → EventKeys e → EventCookies (λ (c : Cookie). Q (c .value)) e → EventValue Q e → Good p Q R stepLimit (perform p scripts s e)
-    unfolding perform named awaited readersAllow writersAllow loadReaders loadWriters urlSound fits
+    unfolding perform named awaited readersAllow writersAllow loadReaders loadWriters kindSound urlSound fits
     perform-kept (Load u n) a b c d keys values q =
-        send-kept n documentKind 0 0 u stepLimit (lit≤ tt) (ltb→lt n connections (search parts)) (or-l (urlSound p n u) false (search joined)) s good
+        send-kept n documentKind 0 0 u stepLimit (lit≤ tt) (ltb→lt n connections (search parts)) (search joined) s good
     perform-kept (Arrival u n cs what) a b c d keys values q =
         receive-kept u n cs what (search parts) (ltb→lt n connections (search parts)) (search parts) (search parts) (search parts) c d keys values q
 

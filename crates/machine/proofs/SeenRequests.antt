@@ -1,5 +1,5 @@
 -- A request looks the same to an observer from states that agree, and of one that it does not see there is no observation.
-use Rattle.prelude.proofs.Kit.{ℕ, _<_, suc, zero, arith, true, _&&_, Bool, false, not, List, _∷_, [], map, ⊎-elim, _≡_, sym, _∙_, refl, ap}
+use Rattle.prelude.proofs.Kit.{ℕ, _<_, suc, zero, arith, _&&_, Bool, false, not, List, _∷_, [], map, ⊎-elim, _≡_, sym, _∙_, refl, ap}
 use Rattle.prelude.proofs.Kit.{ap₂, T, eqb, getD, and-r}
 use mathlib.Core.Bool.{and-comm}
 use Rattle.prelude.specs.Choice.{branch, keep}
@@ -7,7 +7,7 @@ use Rattle.prelude.proofs.Choices.{either, and-alike, one, two, branch-false, k
 use Rattle.records.specs.declared.Record.{Record}
 use Rattle.records.specs.Layout.{keyNumbers, documentRequest, scriptRequest, withCookies}
 use Rattle.machine.specs.Policy.{hostKeys, cookieIndex, urlHost, mayCarry}
-use Rattle.machine.specs.Session.{documentKind, cookieValue, present, has, keyMap, Cookie, attaches, requestMap, request}
+use Rattle.machine.specs.Session.{scriptKind, plainRequest, cookieValue, present, has, keyMap, Cookie, attaches, requestMap, request}
 use Rattle.machine.specs.Machine.{plainMap, cookiesOf}
 use Rattle.machine.specs.Secrecy.{Observation}
 use Rattle.machine.proofs.Lists.{Each}
@@ -15,17 +15,15 @@ use Rattle.machine.proofs.KeyMaps.{has-map}
 use Rattle.machine.proofs.Observer.{Observer, Laws, Agree, observationBy, observationsBy}
 
 -- the kind of a request does not go by its cookies
-plain-map : (kind keys : ℕ) → plainMap (requestMap kind keys) ≡ branch (eqb kind documentKind) documentRequest scriptRequest
-unfolding requestMap branch
-plain-map kind keys = go (eqb kind documentKind) (eqb keys 0)
+plain-map : (kind keys : ℕ) → plainMap (requestMap kind keys) ≡ plainRequest kind
+unfolding requestMap plainRequest
+plain-map kind keys = one Kept (eqb kind scriptKind) (λ _. either-way scriptRequest refl refl) (λ _. either-way documentRequest refl refl)
   where
-    go : (b c : Bool)
-        → plainMap (branch c (branch b documentRequest scriptRequest) (withCookies (branch b documentRequest scriptRequest)))
-        ≡ branch b documentRequest scriptRequest
-    go true true = refl
-    go true false = refl
-    go false true = refl
-    go false false = refl
+    Kept : ℕ → Type 0
+    Kept m = plainMap (branch (eqb keys 0) m (withCookies m)) ≡ m
+
+    either-way : (m : ℕ) → plainMap m ≡ m → plainMap (withCookies m) ≡ m → Kept m
+    either-way m e f = one (λ n. plainMap n ≡ m) (eqb keys 0) (λ _. e) (λ _. f)
 
 -- ---- the cookies of two records that are alike where a test looks
 

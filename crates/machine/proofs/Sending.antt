@@ -1,11 +1,10 @@
 -- Every request that a call sends is carriable, and no call sends more than there is room for, so the counted bytes read back as the
 -- requests sent.
-use Rattle.prelude.proofs.Kit.{ℕ, _≤_, _<_, _^_, _*_, zero-lt-suc, arith, List, _∷_, [], map, ⊎-elim, _≡_, refl, T, eqb, ltb, eqb→eq}
+use Rattle.prelude.proofs.Kit.{ℕ, _≤_, _<_, _^_, _*_, zero-lt-suc, arith, not, List, _∷_, [], map, _≡_, refl, T, eqb, ltb, eqb→eq}
 use Rattle.prelude.proofs.Kit.{ltb→lt, length, areBytes}
 use native.Mathlib.Nat.{one-le-pow, mul-le-mul-right, le-trans}
 use Rattle.prelude.specs.Choice.{branch}
 use Rattle.prelude.proofs.Choices.{parts, one}
-use Rattle.labels.proofs.Below.{or-cases}
 use Rattle.records.specs.declared.Direction.the-variants.{Request}
 use Rattle.records.specs.declared.Record.{Record}
 use Rattle.records.specs.Bytes.{bit}
@@ -16,20 +15,20 @@ use Rattle.records.proofs.RoundTrips.{AllCarriable, none, more}
 use Rattle.records.proofs.Carriable.{Fit, carriable-by}
 use Rattle.records.proofs.Runs.{carriable-read}
 use Rattle.machine.specs.Policy.{hostKeys, connections, cookieIndex, urlHost}
-use Rattle.machine.specs.Session.{cookieValue, keyMap, has, documentKind, scriptKind, attaches, requestMap, request, Effects}
+use Rattle.machine.specs.Session.{cookieValue, keyMap, has, scriptKind, plainRequest, attaches, requestMap, request, Effects}
 use Rattle.machine.specs.Scripts.{stepLimit, stopped}
 use Rattle.machine.specs.Machine.{outcome, feed}
 use Rattle.machine.specs.Guarantees.{areWords, SentReadsBack}
 use Rattle.machine.proofs.Lists.{Each}
 use Rattle.machine.proofs.KeyMaps.{has-map, map-below}
 use Rattle.machine.proofs.Accepted.{either-way}
-use Rattle.machine.proofs.SoundStates.{Sound, openFields, documentFields, scriptFields, fields-bytes}
+use Rattle.machine.proofs.SoundStates.{Sound, openFields, fields-bytes, no-handler}
 use Rattle.machine.proofs.WordSizes.{Word, words-good}
 
 -- ---- a request
 
 module _ (p s : List ℕ) (n kind handler u : ℕ) (values-small : (k : ℕ) → k < hostKeys → cookieValue s (cookieIndex (urlHost p u) k) < 2 ^ 32)
-    (lu : u < 256) (ln : n < 256) (lh : handler < 256) (plain : T (eqb kind documentKind) → handler ≡ 0) where
+    (lu : u < 256) (ln : n < 256) (lh : handler < 256) (bare : T (not (eqb kind scriptKind)) → handler ≡ 0) where
   abbrev keys : ℕ
   keys = keyMap (attaches p s u)
 
@@ -56,16 +55,16 @@ module _ (p s : List ℕ) (n kind handler u : ℕ) (values-small : (k : ℕ) →
       (c 0 tt, (c 1 tt, (c 2 tt, (c 3 tt, (c 4 tt, (c 5 tt, (c 6 tt, (c 7 tt, tt))))))))
 
   request-carriable : T (carriable Request (request p s n kind handler u))
-  unfolding request requestMap isOneOf noKeySet widths values
+  unfolding request requestMap plainRequest isOneOf noKeySet widths values
   request-carriable =
       let cs = cookies-fit in
       let l : keys < 256 = map-below hostKeys (attaches p s u) in
       let zero-keys : T (eqb keys 0) → keys ≡ 0 = eqb→eq keys 0 in
       one Carried _
-      (λ z. one Carried _ (λ t. carriable-by Request (made documentRequest) tt tt (omega (arith, zero-keys z, plain t)))
-      (λ _. carriable-by Request (made scriptRequest) tt tt (omega (arith, zero-keys z))))
-      (λ z. one (λ m. Carried (withCookies m)) _ (λ t. carriable-by Request (made (withCookies documentRequest)) tt z (omega (arith, plain t)))
-      (λ _. carriable-by Request (made (withCookies scriptRequest)) tt z (omega arith)))
+      (λ z. one Carried _ (λ _. carriable-by Request (made scriptRequest) tt tt (omega (arith, zero-keys z)))
+      (λ t. carriable-by Request (made documentRequest) tt tt (omega (arith, zero-keys z, bare t))))
+      (λ z. one (λ m. Carried (withCookies m)) _ (λ _. carriable-by Request (made (withCookies scriptRequest)) tt z (omega arith))
+      (λ t. carriable-by Request (made (withCookies documentRequest)) tt z (omega (arith, bare t))))
 
 -- ---- a call
 
@@ -73,18 +72,11 @@ module _ (p s : List ℕ) (n kind handler u : ℕ) (values-small : (k : ℕ) →
 abbrev Writable : Record → Type 0
 Writable r = EightCookies r × T (carriable Request r)
 
--- a document's connection has no handler
-no-handler : (p : List ℕ) (n k o h u : ℕ) → T (openFields p n k o h u) → T (eqb k documentKind) → h ≡ 0
-no-handler p n k o h u t e =
-    ⊎-elim (λ d. eqb→eq h 0 (search parts))
-    (λ r. let is-script = eqb→eq k scriptKind (search parts) in let is-document = eqb→eq k documentKind e in absurd (omega arith))
-    (or-cases (documentFields p n k o h u) (scriptFields p n k o h u) t)
-
 writable : (p s : List ℕ) (n k o h u : ℕ) → Sound p Word s → n < connections → T (openFields p n k o h u) → Writable (request p s n k h u)
 unfolding request
 writable p s n k o h u good l t =
     let (lo, lh, lu) = fields-bytes p n k o h u t in
-    (refl, request-carriable p s n k h u (λ j lj. good .values (cookieIndex (urlHost p u) j) (omega arith)) lu (omega arith) lh (no-handler p n k o h u t))
+    (refl, request-carriable p s n k h u (λ j lj. good .values (cookieIndex (urlHost p u) j) (omega arith)) lu (omega arith) lh (no-handler p k o h (search parts)))
 
 all-carriable : (rs : List Record) → Each Writable rs → AllCarriable Request rs
 all-carriable [] all = none

@@ -1,13 +1,13 @@
 -- Sound states word by word, with what holds of each cookie value besides: the empty state, and states after a cookie or a connection was set.
-use Rattle.prelude.proofs.Kit.{ℕ, _<_, _+_, _^_, arith, _&&_, Bool, not, _||_, List, ⊎-elim, _≡_, _∙_, T, eqb, ltb, eqb→eq, ltb→lt, T-not}
+use Rattle.prelude.proofs.Kit.{ℕ, _<_, _+_, _^_, arith, _&&_, Bool, not, _||_, List, ⊎-elim, _≡_, _∙_, subst, T, eqb, ltb, eqb→eq, ltb→lt, T-not}
 use Rattle.prelude.proofs.Kit.{lt→ltb, length, getD, ℕ-discrete}
 use lib.ListN.{length-replicate, getD-replicate}
 use lib.Ieee.Fits.{eq→eqb}
 use Rattle.prelude.proofs.Choices.{parts, joined}
 use Rattle.labels.specs.Addresses.{hosts}
-use Rattle.labels.proofs.Below.{all-at, all-of, or-cases, or-l, or-r}
+use Rattle.labels.proofs.Below.{all-at, all-of, or-cases, or-r}
 use Rattle.machine.specs.Policy.{urlRows, hostKeys, connections, cookieIndex, isUrl}
-use Rattle.machine.specs.Session.{presenceAt, connectionsAt, stateWords, emptyState, cookieValue, presence, connectionWord, present, free, documentKind, scriptKind, packed, kindOf, originOf, handlerOf, urlOf, scriptCount, cookieSound, hostSound, urlSound, documentSound, scriptSound, connectionSound, sound, setCookie, setConnection}
+use Rattle.machine.specs.Session.{presenceAt, connectionsAt, stateWords, emptyState, cookieValue, presence, connectionWord, present, free, documentKind, scriptKind, packed, kindOf, originOf, handlerOf, urlOf, scriptCount, cookieSound, hostSound, scriptFields, bareFields, kindSound, urlSound, connectionSound, sound, setCookie, setConnection}
 use Rattle.machine.proofs.KeyMaps.{map-below}
 use Rattle.machine.proofs.StateWords.{length-cookie, length-connection, value-here, value-elsewhere, presence-here, presence-elsewhere, present-here, present-elsewhere, connection-past-cookie, connection-here, connection-elsewhere, value-past-connection, presence-past-connection}
 use Rattle.machine.proofs.ConnectionWords.{kind-packed, origin-packed, handler-packed, url-packed}
@@ -104,15 +104,9 @@ module _ (p : List ℕ) (Q : ℕ → Type 0) (s : List ℕ) (good : Sound p Q s)
   unfolding connectionSound
   connection-freed n l = connection-kept n free l tt
 
--- ---- the four fields of an open connection: a document's, or a script request's
-abbrev pub documentFields : List ℕ → ℕ → ℕ → ℕ → ℕ → ℕ → Bool
-documentFields p n k o h u = eqb k documentKind && (eqb o 0 && (eqb h 0 && urlSound p n u))
-
-abbrev pub scriptFields : List ℕ → ℕ → ℕ → ℕ → ℕ → ℕ → Bool
-scriptFields p n k o h u = eqb k scriptKind && (isUrl p o && (ltb h scriptCount && urlSound p n u))
-
+-- ---- the four fields of an open connection
 abbrev pub openFields : List ℕ → ℕ → ℕ → ℕ → ℕ → ℕ → Bool
-openFields p n k o h u = documentFields p n k o h u || scriptFields p n k o h u
+openFields p n k o h u = kindSound p k o h && urlSound p n u
 
 module _ (p : List ℕ) where
   pub url-byte : (u : ℕ) → T (isUrl p u) → u < 256
@@ -121,29 +115,46 @@ module _ (p : List ℕ) where
 
   -- a sound word that is not free has such fields
   pub word-fields : (n w : ℕ) → T (connectionSound p n w) → T (not (eqb w free)) → T (openFields p n (kindOf w) (originOf w) (handlerOf w) (urlOf w))
-  unfolding connectionSound documentSound scriptSound
+  unfolding connectionSound
   word-fields n w t ne =
       ⊎-elim (λ z. absurd (T-not (eqb w free) ne z)) (λ r. r) (or-cases (eqb w free) (openFields p n (kindOf w) (originOf w) (handlerOf w) (urlOf w)) t)
+
+  module _ (k o h : ℕ) (t : T (kindSound p k o h)) where
+    pub kind-bytes : (k < 256) × (o < 256) × (h < 256)
+    unfolding kindSound
+    kind-bytes =
+        ⊎-elim
+        (λ b. let ek = eqb→eq k documentKind (search parts) in let eo = eqb→eq o 0 (search parts) in let eh = eqb→eq h 0 (search parts) in (omega arith, omega arith, omega arith))
+        (λ s. let ek = eqb→eq k scriptKind (search parts) in let lh = ltb→lt h scriptCount (search parts) in (omega arith, url-byte o (search parts), omega arith))
+        (or-cases (bareFields k o h) (scriptFields p k o h) t)
+
+    -- a script's request has a page and a handler; no other kind has a handler
+    pub script-fields : T (eqb k scriptKind) → T (isUrl p o) × T (ltb h scriptCount)
+    unfolding kindSound
+    script-fields e =
+        let t : T (isUrl p o && ltb h scriptCount) = subst (λ (x : ℕ). T (bareFields x o h || scriptFields p x o h)) (eqb→eq k scriptKind e) t in
+        (search parts, search parts)
+
+    pub no-handler : T (not (eqb k scriptKind)) → h ≡ 0
+    unfolding kindSound
+    no-handler ne =
+        ⊎-elim (λ b. eqb→eq h 0 (search parts)) (λ s. absurd (T-not (eqb k scriptKind) ne (search parts)))
+        (or-cases (bareFields k o h) (scriptFields p k o h) t)
 
   module _ (n k o h u : ℕ) (t : T (openFields p n k o h u)) where
     pub fields-bytes : (o < 256) × (h < 256) × (u < 256)
     unfolding urlSound
-    fields-bytes =
-        ⊎-elim (λ d. let eo = eqb→eq o 0 (search parts) in let eh = eqb→eq h 0 (search parts) in (omega arith, omega arith, url-byte u (search parts)))
-        (λ s. let lh = ltb→lt h scriptCount (search parts) in (url-byte o (search parts), omega arith, url-byte u (search parts)))
-        (or-cases (documentFields p n k o h u) (scriptFields p n k o h u) t)
+    fields-bytes = let (_, lo, lh) = kind-bytes k o h (search parts) in (lo, lh, url-byte u (search parts))
 
     -- a word packed of such fields is sound
     pub fields-word : T (connectionSound p n (packed k o h u))
-    unfolding connectionSound documentSound scriptSound
+    unfolding connectionSound
     fields-word =
         let (lo, lh, lu) = fields-bytes in
-        or-r (eqb (packed k o h u) free) (documentSound p n (packed k o h u) || scriptSound p n (packed k o h u))
+        let w = packed k o h u in
+        or-r (eqb w free) (openFields p n (kindOf w) (originOf w) (handlerOf w) (urlOf w))
         (rw (kind-packed k o h u lo lh lu, origin-packed k o h u lo lh lu, handler-packed k o h u lo lh lu, url-packed k o h u lo lh lu) t)
 
     -- the same with another URL that fits
     pub fields-moved : (v : ℕ) → T (urlSound p n v) → T (openFields p n k o h v)
-    fields-moved v z =
-        ⊎-elim (λ d. or-l (documentFields p n k o h v) (scriptFields p n k o h v) (search joined))
-        (λ s. or-r (documentFields p n k o h v) (scriptFields p n k o h v) (search joined))
-        (or-cases (documentFields p n k o h u) (scriptFields p n k o h u) t)
+    fields-moved v z = search joined

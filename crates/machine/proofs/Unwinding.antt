@@ -6,7 +6,7 @@ use Rattle.prelude.specs.Choice.{keep}
 use Rattle.prelude.proofs.Choices.{parts, either, and-alike, one, two}
 use Rattle.machine.specs.Policy.{hostKeys, connections, cookieIndex, urlHost, isUrl, isConnection, mayRead, mayWrite, maySend}
 use Rattle.machine.specs.Session.{stateWords, scriptKind, cookieValue, present, packed, Effects, send}
-use Rattle.machine.specs.Scripts.{scriptSteps, stepLimit, Step, end, constant, add, readCookie, writeCookie, sendRequest, skipIfZero, stepAt, scriptAt, Progress, register, isRegister, isKey, isScript, ended, goesOn, goesOnAfter, step, stopped, followed, runFrom, startingWith, runScript}
+use Rattle.machine.specs.Scripts.{scriptSteps, stepLimit, Step, end, constant, add, readCookie, writeCookie, sendRequest, skipIfZero, stepAt, scriptAt, Progress, register, isRegister, isKey, isScript, ended, goesOn, goesOnAfter, requested, step, stopped, followed, runFrom, startingWith, runScript}
 use Rattle.machine.proofs.Observer.{Observer, Laws, Agree, observationsBy, observations-append, agree-refl, agree-sym, agree-trans, unseen-cookie, unseen-connection, same-cookie, same-connection}
 use Rattle.machine.proofs.SeenRequests.{unseen-request, same-request}
 
@@ -96,6 +96,15 @@ module _ (p : List ℕ) (v : Observer) (laws : Laws p v) where
         → (present s h k ≡ present t h k) × (cookieValue s (cookieIndex h k) ≡ cookieValue t (cookieIndex h k))
     readable seen k s t a lk m = a .cookies h k (omega arith) (ltb→lt k hostKeys lk) (laws .reads n (cookieIndex h k) m seen)
 
+    requests : (kind origin handler u m i : ℕ) (rs s t : List ℕ) → Agree v s t
+        → Lock (requested p n kind origin handler u m i rs s) (requested p n kind origin handler u m i rs t)
+    unfolding requested
+    requests kind origin handler u m i rs s t a =
+        let test = isUrl p u && (isConnection m && (isScript handler && maySend p n u m)) in
+        two Lock test test refl
+        (λ ok. goes-after (suc i) rs _ _ (send-alike m kind origin handler u s t (ltb→lt m connections (search parts)) a))
+        (λ _. ends rs s t a)
+
     -- in lock-step where the observer sees what the script may read
     lock : T (v .seesScript n) → (x : Step) (i : ℕ) (rs s t : List ℕ) → Agree v s t → Lock (step p n page x i rs s) (step p n page x i rs t)
     unfolding step
@@ -119,11 +128,7 @@ module _ (p : List ℕ) (v : Observer) (laws : Laws p v) where
         (λ _. goes (suc i) rs rs _ _ refl (same-cookie v s t a h k (register rs r) (omega arith) (ltb→lt k hostKeys (search parts))))
         (λ _. goes (suc i) rs rs s t refl a))
         (λ _. ends rs s t a)
-    lock seen (sendRequest u m x) i rs s t a =
-        let test = isUrl p u && (isConnection m && (isScript x && maySend p n u m)) in
-        two Lock test test refl
-        (λ ok. goes-after (suc i) rs _ _ (send-alike m scriptKind page x u s t (ltb→lt m connections (search parts)) a))
-        (λ _. ends rs s t a)
+    lock seen (sendRequest u m x) i rs s t a = requests scriptKind page x u m i rs s t a
     lock seen (skipIfZero r k) i rs s t a =
         two Lock (isRegister r) (isRegister r) refl
         (λ _. two Lock (eqb (register rs r) 0) (eqb (register rs r) 0) refl (λ _. goes (suc i + k) rs rs s t refl a) (λ _. goes (suc i) rs rs s t refl a))
@@ -143,6 +148,15 @@ module _ (p : List ℕ) (v : Observer) (laws : Laws p v) where
       unfolding goesOnAfter
       goes-after-quiet i rs e q = record { states = q .states; requests = q .requests }
 
+      requests-quiet : (kind origin handler u m i : ℕ) (rs : List ℕ) → QuietStep s (requested p n kind origin handler u m i rs s)
+      unfolding requested
+      requests-quiet kind origin handler u m i rs =
+          one (QuietStep s) (isUrl p u && (isConnection m && (isScript handler && maySend p n u m)))
+          (λ ok.
+          let may : T (maySend p n u m) = search parts in
+          goes-after-quiet (suc i) rs _ (send-quiet m kind origin handler u s whole (unseen (v .seesConnection m) (v .seesScript n) (laws .opens n u m may) hidden) (unseen (v .seesRequest u) (v .seesScript n) (laws .sends n u m may) hidden)))
+          (λ _. ends-quiet rs)
+
       quiet : (x : Step) (i : ℕ) (rs : List ℕ) → QuietStep s (step p n page x i rs s)
       unfolding step
       quiet end i rs = ends-quiet rs
@@ -160,12 +174,7 @@ module _ (p : List ℕ) (v : Observer) (laws : Laws p v) where
           (λ m. goes-quiet (suc i) rs _ (unseen-cookie v s whole h k (register rs r) (omega arith) (ltb→lt k hostKeys (search parts)) (unseen (v .seesCookie c) (v .seesScript n) (laws .writes n c m) hidden)))
           (λ _. goes-quiet (suc i) rs s (agree-refl v s whole)))
           (λ _. ends-quiet rs)
-      quiet (sendRequest u m x) i rs =
-          one (QuietStep s) (isUrl p u && (isConnection m && (isScript x && maySend p n u m)))
-          (λ ok.
-          let may : T (maySend p n u m) = search parts in
-          goes-after-quiet (suc i) rs _ (send-quiet m scriptKind page x u s whole (unseen (v .seesConnection m) (v .seesScript n) (laws .opens n u m may) hidden) (unseen (v .seesRequest u) (v .seesScript n) (laws .sends n u m may) hidden)))
-          (λ _. ends-quiet rs)
+      quiet (sendRequest u m x) i rs = requests-quiet scriptKind page x u m i rs
       quiet (skipIfZero r k) i rs =
           one (QuietStep s) (isRegister r)
           (λ _. one (QuietStep s) (eqb (register rs r) 0) (λ _. goes-quiet (suc i + k) rs s (agree-refl v s whole)) (λ _. goes-quiet (suc i) rs s (agree-refl v s whole)))

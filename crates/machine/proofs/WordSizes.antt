@@ -1,5 +1,5 @@
 -- The words of the state stay below 2^32: those of a sound state do where its cookie values do, and no value of a record or script is larger.
-use Rattle.prelude.proofs.Kit.{ℕ, _≤_, _<_, _+_, _-_, _^_, _*_, pred, zero-lt-suc, arith, _||_, List, _∷_, [], ⊎-elim, _≡_, ap, T, eqb, ltb}
+use Rattle.prelude.proofs.Kit.{ℕ, _≤_, _<_, _+_, _-_, _^_, _*_, pred, zero-lt-suc, arith, List, _∷_, [], ⊎-elim, _≡_, ap, T, eqb, ltb}
 use Rattle.prelude.proofs.Kit.{eqb→eq, ltb→lt, lt→ltb, and-i, length, drop, getD, areBytes}
 use native.Mathlib.Decide.{decLt}
 use native.Mathlib.Nat.{le-trans, pow-le-pow-right}
@@ -13,14 +13,14 @@ use Rattle.records.specs.Codec.{decoded}
 use Rattle.records.proofs.Encoding.{counted, fitting}
 use Rattle.records.proofs.Carriable.{decoded-carriable}
 use Rattle.machine.specs.Policy.{connections}
-use Rattle.machine.specs.Session.{presenceAt, connectionsAt, free, documentKind, scriptKind, kindOf, documentSound, scriptSound, connectionSound, request, Effects}
+use Rattle.machine.specs.Session.{presenceAt, connectionsAt, free, kindOf, originOf, handlerOf, urlOf, connectionSound, request, Effects}
 use Rattle.machine.specs.Scripts.{stepLimit, stopped, scriptAt, scriptBytes}
 use Rattle.machine.specs.Machine.{feed, perform}
 use Rattle.machine.specs.Guarantees.{areWords, WordsKept}
 use Rattle.machine.proofs.Lists.{Each, each-take, each-drop, each-at, each-of}
 use Rattle.machine.proofs.ConnectionWords.{below-kind}
 use Rattle.machine.proofs.Accepted.{eventIn, Passed, either-way}
-use Rattle.machine.proofs.SoundStates.{Sound, openFields}
+use Rattle.machine.proofs.SoundStates.{Sound, openFields, kind-bytes}
 use Rattle.machine.proofs.Kept.{Good, TableValues, accepted-good}
 
 abbrev pub Word : ℕ → Type 0
@@ -44,14 +44,11 @@ bytes-each (b ∷ bs) t = (ltb→lt b 256 (search parts), bytes-each bs (search 
 
 -- ---- a sound state
 connection-word : (p : List ℕ) (n w : ℕ) → T (connectionSound p n w) → Word w
-unfolding connectionSound documentSound scriptSound
+unfolding connectionSound
 connection-word p n w t =
     ⊎-elim (λ z. let e = eqb→eq w free z in omega arith)
-    (λ r. ⊎-elim (λ d. small documentKind (omega arith) (search parts)) (λ q. small scriptKind (omega arith) (search parts)) (or-cases (documentSound p n w) (scriptSound p n w) r))
-    (or-cases (eqb w free) (documentSound p n w || scriptSound p n w) t)
-  where
-    small : (k : ℕ) → k < 256 → T (eqb (kindOf w) k) → Word w
-    small k l t = let e = eqb→eq (kindOf w) k t in below-kind w (omega arith)
+    (λ r. below-kind w (kind-bytes p (kindOf w) (originOf w) (handlerOf w) (search parts) .0))
+    (or-cases (eqb w free) (openFields p n (kindOf w) (originOf w) (handlerOf w) (urlOf w)) t)
 
 state-words : (p s : List ℕ) → Sound p Word s → T (areWords s)
 state-words p s good = each-words s (each-of Word 0 s at)

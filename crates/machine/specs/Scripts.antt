@@ -85,6 +85,13 @@ goesOn place rs s = record { place = place; registers = rs; sent = []; state = s
 unfoldable pub goesOnAfter : ℕ → List ℕ → Effects → Progress
 goesOnAfter place rs e = record { place = place; registers = rs; sent = e .sent; state = e .state }
 
+-- A request of URL u on connection m by a script of connection n, where the numbers name something and it is allowed. What is then pending on m has
+-- this kind, origin and handler.
+unfoldable pub requested : List ℕ → ℕ → ℕ → ℕ → ℕ → ℕ → ℕ → ℕ → List ℕ → List ℕ → Progress
+requested p n kind origin handler u m i rs s =
+    branch (isUrl p u && (isConnection m && (isScript handler && maySend p n u m))) (goesOnAfter (suc i) rs (send p m kind origin handler u s))
+    (ended rs s)
+
 -- A step at a place, of the script of a response on connection n, for a page. A field that is used and out of range ends the script,
 -- and so does a read or a request that is not allowed. A write that is not allowed is passed over.
 unfoldable pub step : List ℕ → ℕ → ℕ → Step → ℕ → List ℕ → List ℕ → Progress
@@ -105,9 +112,7 @@ step p n page (writeCookie k b) i rs s =
     (branch (mayWrite p n c) (goesOn (suc i) rs (setCookie (urlHost p page) k (register rs b) s))
     (goesOn (suc i) rs s))
     (ended rs s)
-step p n page (sendRequest u m handler) i rs s =
-    branch (isUrl p u && (isConnection m && (isScript handler && maySend p n u m))) (goesOnAfter (suc i) rs (send p m scriptKind page handler u s))
-    (ended rs s)
+step p n page (sendRequest u m handler) i rs s = requested p n scriptKind page handler u m i rs s
 step p n page (skipIfZero a b) i rs s =
     branch (isRegister a)
     (branch (eqb (register rs a) 0) (goesOn (suc i + b) rs s)

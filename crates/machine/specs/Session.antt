@@ -61,13 +61,6 @@ keyMap test = mapBelow hostKeys test
 abbrev pub free : ℕ
 free = 0
 
-abbrev pub documentKind : ℕ
-documentKind = 1
-
--- a script's request
-abbrev pub scriptKind : ℕ
-scriptKind = 2
-
 unfoldable pub packed : ℕ → ℕ → ℕ → ℕ → ℕ
 packed kind origin handler url = kind * 16777216 + origin * 65536 + handler * 256 + url
 
@@ -83,11 +76,35 @@ handlerOf w = w / 256 % 256
 unfoldable pub urlOf : ℕ → ℕ
 urlOf w = w % 256
 
--- ---- sound
+-- ---- the kinds of an open connection: the number of each, its origin and handler, and its request
+
+abbrev pub documentKind : ℕ
+documentKind = 1
+
+-- a script's request
+abbrev pub scriptKind : ℕ
+scriptKind = 2
 
 -- scripts, and so handlers, are 0 to 15
 abbrev pub scriptCount : ℕ
 scriptCount = 16
+
+-- a script's request has the page that sent it, and the script that handles its response
+abbrev pub scriptFields : List ℕ → ℕ → ℕ → ℕ → Bool
+scriptFields p kind origin handler = eqb kind scriptKind && (isUrl p origin && ltb handler scriptCount)
+
+-- the others have neither
+abbrev pub bareFields : ℕ → ℕ → ℕ → Bool
+bareFields kind origin handler = eqb kind documentKind && (eqb origin 0 && eqb handler 0)
+
+unfoldable pub kindSound : List ℕ → ℕ → ℕ → ℕ → Bool
+kindSound p kind origin handler = bareFields kind origin handler || scriptFields p kind origin handler
+
+-- the map byte of a kind's request, where no cookies follow
+unfoldable pub plainRequest : ℕ → ℕ
+plainRequest kind = branch (eqb kind scriptKind) scriptRequest documentRequest
+
+-- ---- sound
 
 -- an absent cookie's value is 0
 unfoldable pub cookieSound : List ℕ → ℕ → ℕ → Bool
@@ -101,22 +118,8 @@ hostSound s h = ltb (presence s h) (2 ^ hostKeys) && allBelow hostKeys (cookieSo
 unfoldable pub urlSound : List ℕ → ℕ → ℕ → Bool
 urlSound p n u = isUrl p u && fits p n u
 
-unfoldable pub documentSound : List ℕ → ℕ → ℕ → Bool
-documentSound p n w =
-    eqb (kindOf w) documentKind
-    && (eqb (originOf w) 0
-    && (eqb (handlerOf w) 0
-    && urlSound p n (urlOf w)))
-
-unfoldable pub scriptSound : List ℕ → ℕ → ℕ → Bool
-scriptSound p n w =
-    eqb (kindOf w) scriptKind
-    && (isUrl p (originOf w)
-    && (ltb (handlerOf w) scriptCount
-    && urlSound p n (urlOf w)))
-
 unfoldable pub connectionSound : List ℕ → ℕ → ℕ → Bool
-connectionSound p n w = eqb w free || (documentSound p n w || scriptSound p n w)
+connectionSound p n w = eqb w free || (kindSound p (kindOf w) (originOf w) (handlerOf w) && urlSound p n (urlOf w))
 
 unfoldable pub sound : List ℕ → List ℕ → Bool
 sound p s =
@@ -153,9 +156,7 @@ setConnection n w s = set s (connectionsAt + n) w
 
 -- the map byte of a request of a kind, with cookies where any key is set
 unfoldable pub requestMap : ℕ → ℕ → ℕ
-requestMap kind keys =
-    let plain = branch (eqb kind documentKind) documentRequest scriptRequest in
-    branch (eqb keys 0) plain (withCookies plain)
+requestMap kind keys = branch (eqb keys 0) (plainRequest kind) (withCookies (plainRequest kind))
 
 -- the request to u on connection n: a document's, or a script's with its handler
 unfoldable pub request : List ℕ → List ℕ → ℕ → ℕ → ℕ → ℕ → Record

@@ -1,14 +1,12 @@
 -- What is known of a connection on which a response or a redirect is awaited.
-use Rattle.prelude.proofs.Kit.{ℕ, _<_, arith, true, _&&_, Bool, false, not, _||_, and-assoc, List, ⊎-elim, _≡_, sym, _∙_, refl, subst, T}
-use Rattle.prelude.proofs.Kit.{eqb, eqb→eq, ltb→lt, T-not, length}
+use Rattle.prelude.proofs.Kit.{ℕ, _<_, true, _&&_, Bool, false, not, and-assoc, List, _≡_, sym, _∙_, refl, subst, T}
+use Rattle.prelude.proofs.Kit.{eqb, eqb→eq, ltb→lt, length}
 use Rattle.prelude.proofs.Choices.{parts}
-use Rattle.labels.proofs.Below.{or-cases}
 use Rattle.machine.specs.Policy.{connections, wellFormed}
-use Rattle.machine.specs.Session.{free, stateWords, connectionWord, scriptCount, documentKind, scriptKind, kindOf, originOf, handlerOf, urlOf}
-use Rattle.machine.specs.Session.{documentSound, scriptSound, connectionSound, sound}
+use Rattle.machine.specs.Session.{free, stateWords, connectionWord, scriptCount, documentKind, scriptKind, kindOf, originOf, handlerOf, urlOf, sound}
 use Rattle.machine.specs.Machine.{pending, ofKind}
 use Rattle.machine.specs.Machine as machine
-use Rattle.machine.proofs.SoundStates.{sound-of}
+use Rattle.machine.proofs.SoundStates.{sound-of, word-fields, script-fields}
 use Rattle.policy.specs.Given.{Url}
 use Rattle.policy.proofs.Rows.{named-url}
 use Rattle.monitor.specs.declared.events.Arrived.{Arrived}
@@ -41,7 +39,7 @@ sound-length p s good = sound-of p (λ _. Unit {0}) s good (λ _ _. tt) .whole
 -- the connection that waits for something names what handles it
 pub held : (p s : List ℕ) (n u : ℕ) (what : Arrived) → T (wellFormed p) → T (sound p s) → n < connections → Url p u
     → pending s n u && ofKind (kindOf (connectionWord s n)) (told what) ≡ true → Holds p (connectionWord s n) what
-unfolding pending connectionSound documentSound scriptSound
+unfolding pending
 held p s n u (DocumentResponse x) formed safe l url e =
     let w = connectionWord s n in
     let t : T (not (eqb w free) && eqb (urlOf w) u && eqb (kindOf w) documentKind) = subst T (sym e) tt in
@@ -49,11 +47,7 @@ held p s n u (DocumentResponse x) formed safe l url e =
 held p s n u (ScriptResponse v) formed safe l url e =
     let w = connectionWord s n in
     let t : T (not (eqb w free) && eqb (urlOf w) u && eqb (kindOf w) scriptKind) = subst T (sym e) tt in
-    let is-script : kindOf w ≡ scriptKind = eqb→eq (kindOf w) scriptKind (search parts) in
-    let is-open : T (not (eqb w free)) = search parts in
-    ⊎-elim (λ f. absurd (T-not (eqb w free) is-open f))
-    (λ o. ⊎-elim (λ d. let is-document = eqb→eq (kindOf w) documentKind (search parts) in absurd (omega arith))
-    (λ r. (named-url p (originOf w) formed (search parts), ltb→lt (handlerOf w) scriptCount (search parts)))
-    (or-cases (documentSound p n w) (scriptSound p n w) o))
-    (or-cases (eqb w free) (documentSound p n w || scriptSound p n w) (sound-of p (λ _. Unit {0}) s safe (λ _ _. tt) .words n l))
+    let word = word-fields p n w (sound-of p (λ _. Unit {0}) s safe (λ _ _. tt) .words n l) (search parts) in
+    let fields = script-fields p (kindOf w) (originOf w) (handlerOf w) (search parts) (search parts) in
+    (named-url p (originOf w) formed (fields .0), ltb→lt (handlerOf w) scriptCount (fields .1))
 held p s n u (Redirect t) formed safe l url e = tt

@@ -5,8 +5,8 @@ use borrow.Author.Tests.{ltb-true}
 use Rattle.prelude.specs.Choice.{branch}
 use Rattle.prelude.proofs.Choices.{chosen, left-out}
 use Rattle.machine.specs.Policy.{hostKeys, cookieIndex, urlHost, isUrl, isConnection, mayRead, mayWrite, maySend}
-use Rattle.machine.specs.Session.{scriptKind, cookieValue, present, packed, setCookie, setConnection, request, send}
-use Rattle.machine.specs.Scripts.{Progress, scriptSteps, registerCount, register, isRegister, isKey, isScript, end, readCookie, writeCookie, sendRequest, goesOn, goesOnAfter, ended, step, stepOf, stepAt}
+use Rattle.machine.specs.Session.{cookieValue, present, packed, setCookie, setConnection, request, send}
+use Rattle.machine.specs.Scripts.{Progress, scriptSteps, registerCount, register, isRegister, isKey, isScript, end, readCookie, writeCookie, goesOn, goesOnAfter, ended, requested, step, stepOf, stepAt}
 use Rattle.session.specs.Output.{Output, output, writeNext, writeEach}
 use Rattle.scripts.specs.declared.position.Position.{Position}
 use Rattle.scripts.specs.Reached.{reached, after}
@@ -108,33 +108,33 @@ module _ (p : List ℕ) (n page i : ℕ) (rs s : List ℕ) where
         (next i rs t e ∙ ap (goesOn (suc i) rs) (et ∙ rw (eh, ev))
         ∙ goes-either (mayWrite p n (cookieIndex (urlHost p page) k)) (suc i) rs (setCookie (urlHost p page) k (register rs b) s) s)
 
-  -- step 5
-  module _ (u m h : ℕ) where
-    pub send-no-url : {j : ℕ} → isUrl p u ≡ false → j ≡ scriptSteps → goesOn j rs s ≡ step p n page (sendRequest u m h) i rs s
-    unfolding step
-    send-no-url t e = left-out false _ _ _ (rw t) refl (stops rs s e)
+-- a request, from one position to another
+module _ (p : List ℕ) (n i : ℕ) (rs s : List ℕ) (kind origin h u m : ℕ) where
+  pub send-no-url : {j : ℕ} → isUrl p u ≡ false → j ≡ scriptSteps → goesOn j rs s ≡ requested p n kind origin h u m i rs s
+  unfolding requested
+  send-no-url t e = left-out false _ _ _ (rw t) refl (stops rs s e)
 
-    pub send-no-connection : {j : ℕ} → 32 ≤ m → j ≡ scriptSteps → goesOn j rs s ≡ step p n page (sendRequest u m h) i rs s
-    unfolding step
-    send-no-connection l e =
-        left-out false _ _ _ (fails (isUrl p u) (ap (λ (b : Bool). b && (isScript h && maySend p n u m)) (le-ltb m 32 l))) refl (stops rs s e)
+  pub send-no-connection : {j : ℕ} → 32 ≤ m → j ≡ scriptSteps → goesOn j rs s ≡ requested p n kind origin h u m i rs s
+  unfolding requested
+  send-no-connection l e =
+      left-out false _ _ _ (fails (isUrl p u) (ap (λ (b : Bool). b && (isScript h && maySend p n u m)) (le-ltb m 32 l))) refl (stops rs s e)
 
-    pub send-no-handler : {j : ℕ} → 16 ≤ h → j ≡ scriptSteps → goesOn j rs s ≡ step p n page (sendRequest u m h) i rs s
-    unfolding step
-    send-no-handler l e =
-        left-out false _ _ _
-        (fails (isUrl p u) (sym (fails (isConnection m) (ap (λ (b : Bool). b && maySend p n u m) (le-ltb h 16 l))))) refl (stops rs s e)
+  pub send-no-handler : {j : ℕ} → 16 ≤ h → j ≡ scriptSteps → goesOn j rs s ≡ requested p n kind origin h u m i rs s
+  unfolding requested
+  send-no-handler l e =
+      left-out false _ _ _
+      (fails (isUrl p u) (sym (fails (isConnection m) (ap (λ (b : Bool). b && maySend p n u m) (le-ltb h 16 l))))) refl (stops rs s e)
 
-    pub send-forbidden : {j : ℕ} → maySend p n u m ≡ false → j ≡ scriptSteps → goesOn j rs s ≡ step p n page (sendRequest u m h) i rs s
-    unfolding step
-    send-forbidden t e =
-        left-out false _ _ _ (fails (isUrl p u) (sym (fails (isConnection m) (sym (fails (isScript h) t))))) refl (stops rs s e)
+  pub send-forbidden : {j : ℕ} → maySend p n u m ≡ false → j ≡ scriptSteps → goesOn j rs s ≡ requested p n kind origin h u m i rs s
+  unfolding requested
+  send-forbidden t e =
+      left-out false _ _ _ (fails (isUrl p u) (sym (fails (isConnection m) (sym (fails (isScript h) t))))) refl (stops rs s e)
 
-    pub send-goes-on : (r : Position) (t : List ℕ) (o : Output) (out : List ℕ) → isUrl p u ≡ true → m < 32 → h < 16 → maySend p n u m ≡ true
-        → t ≡ setConnection m (packed scriptKind page h u) s → output (r .written) out ≡ writeNext (request p s m scriptKind h u) o
-        → r .place ≡ suc i + 0 → reached r rs t out ≡ after (step p n page (sendRequest u m h) i rs s) o
-    unfolding step goesOnAfter send writeEach
-    send-goes-on r t o out tu lm lh tm et eo e =
-        let allowed : goesOnAfter (suc i) rs (send p m scriptKind page h u s) ≡ step p n page (sendRequest u m h) i rs s =
-        chosen true _ _ _ (rw (tu, lt-ltb m 32 lm, lt-ltb h 16 lh, tm)) refl refl in
-        rw (← allowed, e, add-zero (suc i), et, eo)
+  pub send-goes-on : (r : Position) (t : List ℕ) (o : Output) (out : List ℕ) → isUrl p u ≡ true → m < 32 → h < 16 → maySend p n u m ≡ true
+      → t ≡ setConnection m (packed kind origin h u) s → output (r .written) out ≡ writeNext (request p s m kind h u) o
+      → r .place ≡ suc i + 0 → reached r rs t out ≡ after (requested p n kind origin h u m i rs s) o
+  unfolding requested goesOnAfter send writeEach
+  send-goes-on r t o out tu lm lh tm et eo e =
+      let allowed : goesOnAfter (suc i) rs (send p m kind origin h u s) ≡ requested p n kind origin h u m i rs s =
+      chosen true _ _ _ (rw (tu, lt-ltb m 32 lm, lt-ltb h 16 lh, tm)) refl refl in
+      rw (← allowed, e, add-zero (suc i), et, eo)

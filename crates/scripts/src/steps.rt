@@ -7,8 +7,8 @@ ghost use Rattle.prelude.specs.Choice.{branch};
 ghost use Rattle.labels.specs.Addresses.{hosts};
 ghost use Rattle.machine.specs.Policy.{hostKeys, connections, cookieIndex, mayWrite};
 ghost use Rattle.machine.specs.Session.{setCookie};
-ghost use Rattle.machine.specs.Scripts.{scriptBytes, scriptSteps, registerCount, step, stepAt, goesOn};
-ghost use Rattle.machine.specs.Scripts.{constant, add, readCookie, writeCookie, sendRequest, skipIfZero};
+ghost use Rattle.machine.specs.Scripts.{scriptBytes, scriptSteps, registerCount, requested, step, stepAt, goesOn};
+ghost use Rattle.machine.specs.Scripts.{constant, add, readCookie, writeCookie, skipIfZero};
 ghost use Rattle.session.specs.Given.{Session};
 ghost use Rattle.session.specs.Output.{output};
 ghost use Rattle.scripts.specs.Given.{Script};
@@ -24,8 +24,8 @@ use policy::words::CONNECTIONS;
 use policy::words::HOST_KEYS;
 use session::cookies::is_present;
 use session::cookies::set_cookie;
+use session::kinds::SCRIPT;
 use session::pending::Pending;
-use session::pending::SCRIPT;
 use session::pending::SCRIPTS;
 use session::requests::send;
 use session::words::cookie_value;
@@ -159,44 +159,37 @@ fn write_cookie(
     position.after(0)
 }
 
-// Step 5: a request of a URL on the connection `via`.
+// A request on the connection `via`, and what is then pending there.
 fn send_request(
     policy: &[u32],
     state: &mut [u32],
     connection: usize,
-    page: usize,
     mut position: Position,
-    url: usize,
     via: usize,
-    handler: usize,
+    pending: Pending,
     out: &mut [u8],
 ) -> Position
-    requires { ⌜ Script (now policy) (now state) connection page
+    requires { ⌜ Session (now policy) (now state) × (connection < connections) × (pending .kind < 256) × (pending .origin < 256)
         × (position .place < scriptSteps) × (position .written ≤ length (now out)) ⌝ }
     ensures { λ r. ⌜ ((rs : List ℕ) → reached r rs (now (state .exit)) (now (out .exit))
         ≡ after
-        (step (now (policy .entry)) connection page (sendRequest url via handler) (position .place) rs (now (state .entry)))
+        (requested (now (policy .entry)) connection (pending .kind) (pending .origin) (pending .handler) (pending .url) via
+        (position .place) rs (now (state .entry)))
         (output (position .written) (now (out .entry))))
         × (r .written ≤ length (now (out .entry))) ⌝ }
 {
-    if !is_url(policy, url) {
+    if !is_url(policy, pending.url) {
         return position.ended();
     }
     if CONNECTIONS <= via {
         return position.ended();
     }
-    if SCRIPTS <= handler {
+    if SCRIPTS <= pending.handler {
         return position.ended();
     }
-    if !may_send(policy, connection, url, via) {
+    if !may_send(policy, connection, pending.url, via) {
         return position.ended();
     }
-    let pending = Pending {
-        kind: SCRIPT,
-        origin: page,
-        handler,
-        url,
-    };
     position.written = send(policy, state, via, pending, out, position.written);
     position.after(0)
 }
@@ -239,7 +232,15 @@ pub fn step(
         2 => add(registers, position, a, b, c),
         3 => read_cookie(policy, state, connection, page, registers, position, a, b),
         4 => write_cookie(policy, state, connection, page, registers, position, a, b),
-        5 => send_request(policy, state, connection, page, position, a, b, c, out),
+        5 => {
+            let pending = Pending {
+                kind: SCRIPT,
+                origin: page,
+                handler: c,
+                url: a,
+            };
+            send_request(policy, state, connection, position, b, pending, out)
+        }
         6 => skip_if_zero(registers, position, a, b),
         _ => position.ended(),
     }

@@ -6,11 +6,6 @@ ghost use Rattle.machine.specs.Session.{packed, kindOf, originOf, handlerOf, ur
 // The word of a connection on which nothing is pending.
 pub const FREE: u32 = 0;
 
-pub const DOCUMENT: u32 = 1;
-
-// A script's request.
-pub const SCRIPT: u32 = 2;
-
 // Scripts, and so handlers, are below this.
 pub const SCRIPTS: usize = 16;
 

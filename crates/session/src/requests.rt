@@ -12,7 +12,7 @@ ghost use Rattle.policy.specs.Given.{Url};
 ghost use Rattle.session.specs.Given.{Session};
 ghost use Rattle.session.specs.Output.{output, writeNext};
 use super::cookies::has;
-use super::pending::DOCUMENT;
+use super::kinds::plain_request;
 use super::pending::Pending;
 use super::words::cookie_value;
 use super::words::presence;
@@ -22,8 +22,6 @@ use policy::url_host;
 use policy::words::HOST_KEYS;
 use records::Direction;
 use records::Record;
-use records::map_bytes::DOCUMENT_REQUEST;
-use records::map_bytes::SCRIPT_REQUEST;
 use records::map_bytes::WITH_COOKIES;
 
 // The map of the keys of the cookies that a request to a URL carries. A host without cookies, the common case, is told at once.
@@ -60,17 +58,11 @@ fn attached_values(state: &[u32], host: usize, keys: u8) -> [u32; 8]
 fn request_map(kind: u32, keys: u8) -> u8
     ensures { λ r. ⌜ r ≡ requestMap kind keys ⌝ }
 {
-    if kind == DOCUMENT {
-        return if keys == 0 {
-            DOCUMENT_REQUEST
-        } else {
-            DOCUMENT_REQUEST + WITH_COOKIES
-        };
-    }
+    let plain = plain_request(kind);
     if keys == 0 {
-        SCRIPT_REQUEST
+        plain
     } else {
-        SCRIPT_REQUEST + WITH_COOKIES
+        plain + WITH_COOKIES
     }
 }
 

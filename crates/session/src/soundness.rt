@@ -10,11 +10,12 @@ ghost use Rattle.machine.specs.Policy.{hostKeys, connections};
 ghost use Rattle.machine.specs.Session.{stateWords, presence, connectionWord, has, free, cookieSound, hostSound, connectionSound, sound};
 ghost use Rattle.policy.specs.Given.{WellFormed};
 ghost use Rattle.session.specs.Given.{Session};
-ghost use Rattle.session.specs.Kinds.{documentShape, scriptShape};
 ghost use Rattle.session.specs.Strays.{noneLeft};
 use super::cookies::has;
+use super::kinds::DOCUMENT;
+use super::kinds::is_bare;
+use super::kinds::is_script;
 use super::pending::FREE;
-use super::pending::SCRIPTS;
 use super::words::WORDS;
 use super::words::connection_word;
 use super::words::cookie_value;
@@ -90,25 +91,6 @@ fn hosts_sound(state: &[u32]) -> bool
     (bits < 0x100) & none_left(strays)
 }
 
-// The two shapes of an open connection's word are asked of the whole word, so that each is one mask and one comparison.
-
-// A document's: kind 1, a URL below 64, and 0 between, which is one range of words.
-fn is_document(word: u32) -> bool
-    ensures { λ r. ⌜ r ≡ documentShape word ⌝ }
-{
-    (0x100_0000 <= word) & (word < 0x100_0040)
-}
-
-// A script's request: kind 2 and an origin below 64 are one range too.
-fn is_script(word: u32) -> bool
-    ensures { λ r. ⌜ r ≡ scriptShape word ⌝ }
-{
-    (0x200_0000 <= word)
-        & (word < 0x240_0000)
-        & (word / 0x100 % 0x100 < SCRIPTS as u32)
-        & (word % 0x100 < URL_ROWS as u32)
-}
-
 // URL and origin are taken below 64, which leaves `is_url` no bound to test: a word in which either is above has neither shape.
 fn connection_sound(policy: &[u32], connection: usize, word: u32) -> bool
     requires { ⌜ WellFormed (now policy) × (connection < connections) ⌝ }
@@ -124,7 +106,7 @@ fn connection_sound(policy: &[u32], connection: usize, word: u32) -> bool
     if !fits(policy, connection, url) {
         return false;
     }
-    if is_document(word) {
+    if is_bare(DOCUMENT, word) {
         return true;
     }
     if !is_script(word) {

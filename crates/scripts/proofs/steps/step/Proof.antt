@@ -68,7 +68,7 @@ returns-4 c =
     quiet (m .before) _ (call .result) (now (a .registers)) (call .last .1 .0) (at-place (m .before) 4 (m .match .keys4)) (call .ensures .0) (call .ensures .1)
 
 returns-5 : tie.Need-returns-5
-unfolding stepOf branch
+unfolding stepOf branch step
 returns-5 c =
     let m = c .before .before .before .before .before .before .before in
     let call = c .before .before .before .before .send-request in

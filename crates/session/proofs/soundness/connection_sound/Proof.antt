@@ -42,13 +42,13 @@ returns-4 c =
     document (now (a .policy)) (a .connection) (a .word) (asked .before .if1 .left)
     (sym (asked .is-url .ensures .0) ∙ not-false (asked .is-url .result) (url .if2 .left))
     (sym (fit .fits2 .ensures) ∙ not-false (fit .fits2 .result) (fitting .if3 .left))
-    (sym (shape .is-document .ensures) ∙ c .if4 .taken)
+    (sym (shape .is-bare .ensures) ∙ c .if4 .taken)
 
 returns-5 : tie.Need-returns-5
 returns-5 c =
     let other = c .before in
-    let no-document = other .before in
-    let shape = no-document .before in
+    let not-bare = other .before in
+    let shape = not-bare .before in
     let fitting = shape .before in
     let fit = fitting .before in
     let url = fit .before in
@@ -57,15 +57,15 @@ returns-5 c =
     neither (now (a .policy)) (a .connection) (a .word) (asked .before .if1 .left)
     (sym (asked .is-url .ensures .0) ∙ not-false (asked .is-url .result) (url .if2 .left))
     (sym (fit .fits2 .ensures) ∙ not-false (fit .fits2 .result) (fitting .if3 .left))
-    (sym (shape .is-document .ensures) ∙ no-document .if4 .left)
+    (sym (shape .is-bare .ensures) ∙ not-bare .if4 .left)
     (sym (other .is-script .ensures) ∙ not-true (other .is-script .result) (c .if5 .taken))
 
 returns-6 : tie.Need-returns-6
 returns-6 c =
     let scripted = c .before in
     let other = scripted .before in
-    let no-document = other .before in
-    let shape = no-document .before in
+    let not-bare = other .before in
+    let shape = not-bare .before in
     let fitting = shape .before in
     let fit = fitting .before in
     let url = fit .before in
@@ -75,7 +75,7 @@ returns-6 c =
     ∙ script (now (a .policy)) (a .connection) (a .word) (asked .before .if1 .left)
     (sym (asked .is-url .ensures .0) ∙ not-false (asked .is-url .result) (url .if2 .left))
     (sym (fit .fits2 .ensures) ∙ not-false (fit .fits2 .result) (fitting .if3 .left))
-    (sym (shape .is-document .ensures) ∙ no-document .if4 .left)
+    (sym (shape .is-bare .ensures) ∙ not-bare .if4 .left)
     (sym (other .is-script .ensures) ∙ not-false (other .is-script .result) (scripted .if5 .left))
 
 pub connection-sound-spec : {M : Type 1} → statement M
