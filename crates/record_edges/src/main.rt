@@ -9,12 +9,15 @@ use libc::STDOUT_FILENO;
 use records::Direction;
 use records::Record;
 
+// Room for standard input; what does not fit would be missing from the output.
+const TEXT_ROOM: usize = 16_384;
+
 fn main() {
     print(b"input\n");
     sweep(Direction::Input);
     print(b"request\n");
     sweep(Direction::Request);
-    let mut text = io::buffer();
+    let mut text = [0u8; TEXT_ROOM];
     let n = io::read_full(STDIN_FILENO, &mut text);
     lines(&text[..n]);
 }

@@ -10,11 +10,6 @@ use Rattle.records.specs.Bytes.{bit}
 use Rattle.records.specs.Layout.{cookiesBit, maps, widths, start, keyMapAt, size}
 use Rattle.records.specs.Codec.{refused, isOneOf, noKeySet, mapOf, keysOf, mapUnknown, keysZero, lengthOther, readRefusals, readRefusal, fieldsOf, decoded}
 
--- the place after the last field is the length
-pub end-is-size : (m keys : ℕ) → start 14 m keys ≡ size m keys
-unfolding start size widths
-end-is-size m keys = refl
-
 module _ (d : Direction) (bytes : List ℕ) where
   -- refusal n, where it is the first that applies
   pub refused-by : (n : ℕ) → NoneOf (take n (readRefusals d bytes)) → nth accepted n (readRefusals d bytes) .applies ≡ true

@@ -15,7 +15,7 @@ use Rattle.records.specs.Layout.{keyNumbers, maps, longest, widths, sum,
 use Rattle.records.specs.Codec.{noRoom, notCarriable, isOneOf, noKeySet, carriable, bytesOf, writeRefusals, writeRefusal, encoded}
 use Rattle.records.specs.Places.{frontWidths, cookieWidths, backWidths}
 use Rattle.records.proofs.Joining.{length-join}
-use Rattle.records.proofs.Writing.{widths-split, values-split, size-split, front-sum, front-count, cookie-count}
+use Rattle.records.proofs.Writing.{widths-split, values-split, size-split, front-sum, front-count, cookie-count, back-count}
 
 pub counted : (r : Record) → length (values r) ≡ length (widths (r .map) (r .keys))
 unfolding values widths
@@ -76,8 +76,9 @@ module _ (r : Record) (eight : length (r .cookies) ≡ 8) where
   in-three : fitWidths (widths m (r .keys)) (values r)
       ≡ fitWidths (frontWidths m) (r .url ∷ r .connection ∷ r .keys ∷ [])
       && (fitWidths (cookieWidths (r .keys)) (r .cookies) && fitWidths (backWidths m) (r .script ∷ r .value ∷ r .target ∷ []))
+  unfolding fitWidths
   in-three =
-      rw (widths-split m (r .keys), values-split r eight, fits-append (frontWidths m) (cookieWidths (r .keys) ++ backWidths m) (r .url ∷ r .connection ∷ r .keys ∷ []) (r .cookies ++ (r .script ∷ r .value ∷ r .target ∷ [])) (front-count r eight), fits-append (cookieWidths (r .keys)) (backWidths m) (r .cookies) (r .script ∷ r .value ∷ r .target ∷ []) (cookie-count r eight))
+      rw (widths-split m (r .keys), values-split r eight, fits-append (frontWidths m) (cookieWidths (r .keys) ++ (backWidths m ++ (0 ∷ []))) (r .url ∷ r .connection ∷ r .keys ∷ []) (r .cookies ++ (r .script ∷ r .value ∷ r .target ∷ 0 ∷ [])) (front-count r eight), fits-append (cookieWidths (r .keys)) (backWidths m ++ (0 ∷ [])) (r .cookies) (r .script ∷ r .value ∷ r .target ∷ 0 ∷ []) (cookie-count r eight), fits-append (backWidths m) (0 ∷ []) (r .script ∷ r .value ∷ r .target ∷ []) (0 ∷ []) (back-count r eight), and-true)
 
   pub all-fit : (u c k cs s v t : ℕ)
       → eqb u 0 ≡ ltb (r .url) (256 ^ (1 * bit m 0))

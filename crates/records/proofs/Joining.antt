@@ -84,10 +84,6 @@ spelt-is zero (x ∷ l) e = absurd (omega arith)
 spelt-is (suc n) [] e = absurd (omega arith)
 spelt-is (suc n) (x ∷ l) e = ap (λ (t : List ℕ). x ∷ t) (spelt-is n l (ap pred e))
 
-pub values-from : (m : ℕ) (vs : List ℕ) → length vs ≡ 14 → values (fromValues m vs) ≡ vs
-unfolding values fromValues spelt
-values-from m vs e = subst (λ (l : List ℕ). values (fromValues m l) ≡ l) (spelt-is 14 vs e) refl
-
 -- a record with other cookie values
 unfoldable pub with-cookies : Record → List ℕ → Record
 with-cookies r cs = record { map = r .map; url = r .url; connection = r .connection; keys = r .keys; cookies = cs; script = r .script; value = r .value; target = r .target }

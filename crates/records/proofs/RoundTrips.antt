@@ -2,6 +2,7 @@
 use Rattle.prelude.proofs.Kit.{ℕ, _≤_, _<_, _+_, suc, zero, zero-lt-suc, arith, false, true≢false, cond, List, _∷_, [], _++_, append-nil}
 use Rattle.prelude.proofs.Kit.{_≡_, sym, _∙_, refl, ap, T, eqb, eqb·suc-zero, length, take, drop, length-append, length-drop, areBytes}
 use Rattle.prelude.proofs.Kit.{drop-cons}
+use native.Mathlib.Nat.{zero-mul}
 use lib.Dec.{nltb→le}
 use lib.Seq.{take-at, drop-at, take-nil, take-append-add}
 use Rattle.prelude.specs.Choice.{branch}
@@ -10,13 +11,14 @@ use Rattle.prelude.proofs.Choices.{is-true, is-false, passes}
 use Rattle.prelude.proofs.Refusals.{NoneOf, none-applied, number-of}
 use Rattle.records.specs.declared.Direction.{Direction}
 use Rattle.records.specs.declared.Record.{Record}
+use Rattle.records.specs.Bytes.{bit, number}
 use Rattle.records.specs.Layout.{maps, longest, widths, sum, join, split, values, fromValues, size}
 use Rattle.records.specs.Codec.{isOneOf, noKeySet, mapOf, keysOf, mapUnknown, readRefusal, fieldsOf, decoded, carriable, bytesOf, Written, writeRefusals, writeRefusal, encoded, firstRecord, readAtMost, readRun, writeRun, followedBy}
 use Rattle.records.specs.RoundTrips.{EightCookies, WrittenIsRead, ReadIsWritten, RunIsRead, AllEightCookies, LongestIs}
 use Rattle.records.proofs.Values.{keys-first, same-keys}
 use Rattle.records.proofs.Decoding.{keys-set, decoded-accepted, accepts, known, right-length, keyed as read-keyed}
 use Rattle.records.proofs.Encoding.{counted, known as mapped, keyed, fitting, bytes-length, encoded-accepted, no-write-refusal}
-use Rattle.records.proofs.Joining.{length-split, split-join, join-split, fits-split, drop-bytes, values-from, from-values}
+use Rattle.records.proofs.Joining.{split-join, join-split, fits-split, drop-bytes, from-values}
 
 -- ---- the refusals, and what is accepted where none applies
 
@@ -112,8 +114,8 @@ module _ (d : Direction) (bytes : List ℕ) (h : T (areBytes bytes)) (e : readRe
   same-map = refl
 
   same-values : values (fieldsOf bytes) ≡ apart
-  unfolding fieldsOf apart widths
-  same-values = values-from (mapOf bytes) apart (length-split (widths (mapOf bytes) (keysOf bytes)) (drop 1 bytes))
+  unfolding fieldsOf apart widths split values fromValues number
+  same-values = rw (zero-mul (bit (mapOf bytes) 6))
 
   whole : bytesOf (fieldsOf bytes) ≡ bytes
   unfolding bytesOf apart

@@ -32,13 +32,13 @@ split-at (w ∷ ws) bytes (suc i) =
 abbrev pub made : (m u c k : ℕ) (cs : List ℕ) (s v t : ℕ) → Record
 made m u c k cs s v t = record { map = m; url = u; connection = c; keys = k; cookies = cs; script = s; value = v; target = t }
 
--- its fields among its fourteen values
+-- its fields among its values
 abbrev among : ℕ → List ℕ → Record
 among m vs = made m (getD vs 0 0) (getD vs 1 0) (getD vs 2 0) (take 8 (drop 3 vs)) (getD vs 11 0) (getD vs 12 0) (getD vs 13 0)
 
-by-place : (m : ℕ) (vs : List ℕ) → length vs ≡ 14 → fromValues m vs ≡ among m vs
+by-place : (m : ℕ) (vs : List ℕ) → length vs ≡ 15 → fromValues m vs ≡ among m vs
 unfolding fromValues spelt
-by-place m vs e = subst (λ (l : List ℕ). fromValues m l ≡ among m l) (spelt-is 14 vs e) refl
+by-place m vs e = subst (λ (l : List ℕ). fromValues m l ≡ among m l) (spelt-is 15 vs e) refl
 
 -- the key map is read alike whatever keys are taken to be set, since it comes before them
 pub keys-first : (m keys : ℕ) (bytes : List ℕ) → fromValues m (split (widths m 0) bytes) .keys ≡ fromValues m (split (widths m keys) bytes) .keys

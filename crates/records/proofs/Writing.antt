@@ -1,7 +1,7 @@
 -- Fields written one after another are written as one list of bytes.
 use Rattle.prelude.proofs.Kit.{ℕ, _≤_, _+_, _*_, pred, zero-add, one-mul, arith, List, _∷_, [], _++_, append-assoc, append-nil, _≡_, sym}
 use Rattle.prelude.proofs.Kit.{_∙_, refl, ap, subst, length, take, sets}
-use native.Mathlib.Nat.{add-assoc}
+use native.Mathlib.Nat.{add-assoc, zero-mul}
 use Rattle.prelude.proofs.Lists.{sets-append}
 use Rattle.records.specs.declared.Record.{Record}
 use Rattle.records.specs.Bytes.{bit, digits}
@@ -44,9 +44,10 @@ join-append (w ∷ ws) us [] xs e = absurd (omega arith)
 join-append (w ∷ ws) us (v ∷ vs) xs e =
     ap (λ (l : List ℕ). digits w v ++ l) (join-append ws us vs xs (ap pred e)) ∙ sym (append-assoc (digits w v) (join ws vs) (join us xs))
 
-pub widths-split : (m keys : ℕ) → widths m keys ≡ frontWidths m ++ (cookieWidths keys ++ backWidths m)
+-- the widths of the three, and 0 for the part without bytes
+pub widths-split : (m keys : ℕ) → widths m keys ≡ frontWidths m ++ (cookieWidths keys ++ (backWidths m ++ (0 ∷ [])))
 unfolding widths frontWidths cookieWidths backWidths
-widths-split m keys = refl
+widths-split m keys = rw (zero-mul (bit m 6))
 
 pub front-sum : (m keys : ℕ) → start 3 m keys ≡ 1 + sum (frontWidths m)
 unfolding start frontWidths widths
@@ -55,7 +56,7 @@ front-sum m keys = refl
 pub size-split : (m keys : ℕ) → size m keys ≡ start 3 m keys + sum (cookieWidths keys) + sum (backWidths m)
 unfolding size
 size-split m keys =
-    rw (widths-split m keys, sum-append (frontWidths m) (cookieWidths keys ++ backWidths m), sum-append (cookieWidths keys) (backWidths m), front-sum m keys)
+    rw (widths-split m keys, sum-append (frontWidths m) (cookieWidths keys ++ (backWidths m ++ (0 ∷ []))), sum-append (cookieWidths keys) (backWidths m ++ (0 ∷ [])), sum-append (backWidths m) (0 ∷ []), front-sum m keys)
     (omega arith)
 
 -- the place after the cookie values
@@ -88,10 +89,10 @@ module _ (r : Record) (eight : length (r .cookies) ≡ 8) where
   abbrev back : List ℕ
   back = join (backWidths (r .map)) (r .script ∷ r .value ∷ r .target ∷ [])
 
-  pub values-split : values r ≡ (r .url ∷ r .connection ∷ r .keys ∷ []) ++ (r .cookies ++ (r .script ∷ r .value ∷ r .target ∷ []))
+  pub values-split : values r ≡ (r .url ∷ r .connection ∷ r .keys ∷ []) ++ (r .cookies ++ (r .script ∷ r .value ∷ r .target ∷ 0 ∷ []))
   unfolding values spelt with-cookies
   values-split =
-      subst (λ (cs : List ℕ). values (with-cookies r cs) ≡ (r .url ∷ r .connection ∷ r .keys ∷ []) ++ (cs ++ (r .script ∷ r .value ∷ r .target ∷ [])))
+      subst (λ (cs : List ℕ). values (with-cookies r cs) ≡ (r .url ∷ r .connection ∷ r .keys ∷ []) ++ (cs ++ (r .script ∷ r .value ∷ r .target ∷ 0 ∷ [])))
       (spelt-is 8 (r .cookies) eight) refl
 
   pub front-count : length (r .url ∷ r .connection ∷ r .keys ∷ []) ≡ length (frontWidths (r .map))
@@ -102,10 +103,19 @@ module _ (r : Record) (eight : length (r .cookies) ≡ 8) where
   unfolding cookieWidths widths
   cookie-count = eight
 
+  pub back-count : length (r .script ∷ r .value ∷ r .target ∷ []) ≡ length (backWidths (r .map))
+  unfolding backWidths widths
+  back-count = refl
+
+  -- the part without bytes is joined as nothing
+  back-joined : join (backWidths (r .map) ++ (0 ∷ [])) (r .script ∷ r .value ∷ r .target ∷ 0 ∷ []) ≡ back
+  unfolding join digits
+  back-joined = join-append (backWidths (r .map)) (0 ∷ []) (r .script ∷ r .value ∷ r .target ∷ []) (0 ∷ []) back-count ∙ append-nil back
+
   bytes-split : bytesOf r ≡ front ++ (cookies ++ back)
   unfolding bytesOf
   bytes-split =
-      rw (widths-split (r .map) (r .keys), values-split, join-append (frontWidths (r .map)) (cookieWidths (r .keys) ++ backWidths (r .map)) (r .url ∷ r .connection ∷ r .keys ∷ []) (r .cookies ++ (r .script ∷ r .value ∷ r .target ∷ [])) front-count, join-append (cookieWidths (r .keys)) (backWidths (r .map)) (r .cookies) (r .script ∷ r .value ∷ r .target ∷ []) cookie-count)
+      rw (widths-split (r .map) (r .keys), values-split, join-append (frontWidths (r .map)) (cookieWidths (r .keys) ++ (backWidths (r .map) ++ (0 ∷ []))) (r .url ∷ r .connection ∷ r .keys ∷ []) (r .cookies ++ (r .script ∷ r .value ∷ r .target ∷ 0 ∷ [])) front-count, join-append (cookieWidths (r .keys)) (backWidths (r .map) ++ (0 ∷ [])) (r .cookies) (r .script ∷ r .value ∷ r .target ∷ 0 ∷ []) cookie-count, back-joined)
 
   pub written-in-turn : {l1 l2 l3 : List ℕ} (l : List ℕ)
       → l1 ≡ sets l 0 front → l2 ≡ sets l1 (start 3 (r .map) (r .keys)) cookies → l3 ≡ sets l2 (start 3 (r .map) (r .keys) + sum (cookieWidths (r .keys))) back

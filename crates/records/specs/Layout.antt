@@ -9,9 +9,9 @@ use Rattle.records.specs.declared.Direction.the-variants.{Input, Request
 use Rattle.records.specs.declared.Record.{Record}
 use Rattle.records.specs.Bytes.{bit, number, digits}
 
--- What a record carries after its map byte. Document 01 calls a connection a lane.
+-- What a record carries after its map byte. Document 01 calls a connection a lane. That the record is a picture's is carried without a byte.
 pub data Part : Type 0 where
-  url connection keyMap script value target : Part
+  url connection keyMap script value target picture : Part
   cookie : ℕ → Part
 
 -- A field is carried where a bit is set: of the map, or of the key map.
@@ -47,9 +47,10 @@ layout =
     ++ (field script (mapBit 3) 1
     ∷ field value (mapBit 4) 4
     ∷ field target (mapBit 5) 1
+    ∷ field picture (mapBit 6) 0
     ∷ []))
 
--- The map bytes. Inputs: document 01's load; document answer, script answer and redirect, each with cookies or without.
+-- The map bytes. Inputs: document 01's load; document answer, script answer, redirect and picture answer, each with cookies or without.
 abbrev pub load : ℕ
 load = 0x03
 
@@ -62,12 +63,18 @@ scriptResponse = 0x13
 abbrev pub redirect : ℕ
 redirect = 0x23
 
--- requests: document request and script request, each with cookies or without
+abbrev pub pictureResponse : ℕ
+pictureResponse = 0x43
+
+-- requests: document request, script request and picture request, each with cookies or without
 abbrev pub documentRequest : ℕ
 documentRequest = 0x03
 
 abbrev pub scriptRequest : ℕ
 scriptRequest = 0x0b
+
+abbrev pub pictureRequest : ℕ
+pictureRequest = 0x43
 
 abbrev pub withCookies : ℕ → ℕ
 withCookies m = m + 2 ^ cookiesBit
@@ -81,8 +88,17 @@ maps Input =
     ∷ withCookies scriptResponse
     ∷ redirect
     ∷ withCookies redirect
+    ∷ pictureResponse
+    ∷ withCookies pictureResponse
     ∷ []
-maps Request = documentRequest ∷ withCookies documentRequest ∷ scriptRequest ∷ withCookies scriptRequest ∷ []
+maps Request =
+    documentRequest
+    ∷ withCookies documentRequest
+    ∷ scriptRequest
+    ∷ withCookies scriptRequest
+    ∷ pictureRequest
+    ∷ withCookies pictureRequest
+    ∷ []
 
 -- 1 where a field is carried, 0 where not
 abbrev pub carried : Guard → ℕ → ℕ → ℕ
@@ -134,7 +150,7 @@ fitWidths [] vs = true
 fitWidths (w ∷ ws) [] = true
 fitWidths (w ∷ ws) (v ∷ vs) = ltb v (256 ^ w) && fitWidths ws vs
 
--- the value of a part
+-- the value of a part; what has no byte has only 0
 abbrev valueOf : Record → Part → ℕ
 valueOf r url = r .url
 valueOf r connection = r .connection
@@ -142,6 +158,7 @@ valueOf r keyMap = r .keys
 valueOf r script = r .script
 valueOf r value = r .value
 valueOf r target = r .target
+valueOf r picture = 0
 valueOf r (cookie k) = getD (r .cookies) k 0
 
 -- a record's values in the order of the layout
@@ -156,7 +173,8 @@ code keyMap = 2
 code script = 3
 code value = 4
 code target = 5
-code (cookie k) = 6 + k
+code picture = 6
+code (cookie k) = 7 + k
 
 -- the value of a part among values in the order of the layout
 abbrev among : List Field → List ℕ → Part → ℕ

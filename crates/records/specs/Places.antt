@@ -4,7 +4,7 @@ use Prim.Native.Nat.{ℕ}
 use mathlib.Core.List.{List}
 use lib.ListN.{take, drop}
 use Rattle.records.specs.declared.places.Places.{Places}
-use Rattle.records.specs.Layout.{widths, start}
+use Rattle.records.specs.Layout.{widths, start, size}
 
 -- the places of a record's fields, as the code keeps them: field 0, the URL, is at 1
 unfoldable pub placesOf : ℕ → ℕ → Places
@@ -15,10 +15,10 @@ placesOf m keys = record {
   script = start 11 m keys;
   value = start 12 m keys;
   target = start 13 m keys;
-  end = start 14 m keys;
+  end = size m keys;
 }
 
--- the bytes of the fields before the cookie values, of those values, and of the fields after them
+-- the bytes of the fields before the cookie values, of those values, and of the fields after them; the last part of the layout has none
 unfoldable pub frontWidths : ℕ → List ℕ
 frontWidths m = take 3 (widths m 0)
 
@@ -26,4 +26,4 @@ unfoldable pub cookieWidths : ℕ → List ℕ
 cookieWidths keys = take 8 (drop 3 (widths 0 keys))
 
 unfoldable pub backWidths : ℕ → List ℕ
-backWidths m = drop 11 (widths m 0)
+backWidths m = take 3 (drop 11 (widths m 0))

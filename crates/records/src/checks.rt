@@ -16,19 +16,32 @@ use super::places::TARGET;
 use super::places::URL;
 use super::places::VALUE;
 
-// Whether the direction has this map.
+// Whether the direction has this map. It is compared with each in turn, which tells the compiler which bits a map has.
 pub fn is_map(direction: Direction, map: u8) -> bool
     ensures { λ r. ⌜ r ≡ isOneOf map (maps direction) ⌝ }
 {
     match direction {
-        // load; document response, script response and redirect, each without cookies and with them
-        Direction::Input => match map {
-            0x03 | 0x0b | 0x0f | 0x13 | 0x17 | 0x23 | 0x27 => true,
-            _ => false,
-        },
-        // document request and script request, each without cookies and with them; compared one by one, which tells the compiler which bits such a
-        // map has
-        Direction::Request => (map == 0x03) | (map == 0x07) | (map == 0x0b) | (map == 0x0f),
+        // load; document response, script response, redirect and picture response, each without cookies and with them
+        Direction::Input => {
+            (map == 0x03)
+                | (map == 0x0b)
+                | (map == 0x0f)
+                | (map == 0x13)
+                | (map == 0x17)
+                | (map == 0x23)
+                | (map == 0x27)
+                | (map == 0x43)
+                | (map == 0x47)
+        }
+        // document request, script request and picture request, each without cookies and with them
+        Direction::Request => {
+            (map == 0x03)
+                | (map == 0x07)
+                | (map == 0x0b)
+                | (map == 0x0f)
+                | (map == 0x43)
+                | (map == 0x47)
+        }
     }
 }
 

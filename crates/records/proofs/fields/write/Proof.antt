@@ -3,7 +3,6 @@ use Rattle.prelude.proofs.Kit.{_≤_, _+_, arith, _≡_, _∙_, ap, needs, now,
 use Rattle.records.specs.declared.places.Places.{Places}
 use Rattle.records.specs.Layout.{start as from, sum, size}
 use Rattle.records.specs.Places.{placesOf, cookieWidths, backWidths}
-use Rattle.records.proofs.Decoding.{end-is-size}
 use Rattle.records.proofs.Writing.{size-split, script-start, written-in-turn}
 use Rattle.records.proofs.fields.write.Statement.{statement}
 use Rattle.records.proofs.fields.write.Tie as tie
@@ -32,7 +31,7 @@ places m =
     let e = m .of .ensures in (
       ap (λ (p : Places). p .cookies) e,
       ap (λ (p : Places). p .script) e ∙ script-start (r .map) (r .keys),
-      ap (λ (p : Places). p .end) e ∙ end-is-size (r .map) (r .keys),
+      ap (λ (p : Places). p .end) e,
     )
 
 -- the room that there is, by the three parts
