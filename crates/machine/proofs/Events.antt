@@ -7,7 +7,7 @@ use Rattle.records.specs.declared.Record.{Record}
 use Rattle.records.specs.Layout.{keyNumbers}
 use Rattle.machine.specs.Policy.{hostKeys, connections}
 use Rattle.machine.specs.Session.{has, Cookie}
-use Rattle.machine.specs.Machine.{Arrived, DocumentResponse, ScriptResponse, Redirect, Event, Load, Arrival, cookiesOf, arrivedOf, eventOf, named}
+use Rattle.machine.specs.Machine.{Arrived, DocumentResponse, ScriptResponse, PictureResponse, Redirect, Event, Load, Arrival, cookiesOf, arrivedOf, eventOf, named}
 use Rattle.machine.proofs.Lists.{Each, each-map, each-keep}
 
 abbrev pub EventCookies : (Cookie → Type 0) → Event → Type 0
@@ -18,6 +18,7 @@ EventCookies P (Arrival u n cs what) = Each P cs
 abbrev pub ArrivedValue : (ℕ → Type 0) → Arrived → Type 0
 ArrivedValue Q (DocumentResponse x) = Unit {0}
 ArrivedValue Q (ScriptResponse v) = Q v
+ArrivedValue Q PictureResponse = Unit {0}
 ArrivedValue Q (Redirect t) = Unit {0}
 
 abbrev pub EventValue : (ℕ → Type 0) → Event → Type 0
@@ -38,7 +39,7 @@ module _ (r : Record) where
 
   arrived-value : (Q : ℕ → Type 0) → Q (r .value) → ArrivedValue Q (arrivedOf r)
   unfolding arrivedOf
-  arrived-value Q q = one (ArrivedValue Q) _ (λ _. tt) (λ _. one (ArrivedValue Q) _ (λ _. q) (λ _. tt))
+  arrived-value Q q = one (ArrivedValue Q) _ (λ _. tt) (λ _. one (ArrivedValue Q) _ (λ _. q) (λ _. one (ArrivedValue Q) _ (λ _. tt) (λ _. tt)))
 
   pub event-value : (Q : ℕ → Type 0) → Q (r .value) → EventValue Q (eventOf r)
   unfolding eventOf

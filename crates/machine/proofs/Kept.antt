@@ -10,9 +10,9 @@ use Rattle.records.specs.declared.Record.{Record}
 use Rattle.records.specs.Layout.{keyNumbers}
 use Rattle.records.specs.Codec.{decoded}
 use Rattle.machine.specs.Policy.{hostKeys, connections, cookieIndex, urlHost, isUrl, isConnection, fits, maySend, loadReaders, loadWriters, redirectReaders, redirectWriters}
-use Rattle.machine.specs.Session.{presenceAt, cookieValue, connectionWord, free, documentKind, scriptKind, packed, kindOf, originOf, handlerOf, urlOf, kindSound, urlSound, Cookie, setCookie, storeCookie, storeCookies, setConnection, request, Effects, send}
-use Rattle.machine.specs.Scripts.{stepLimit, scriptAt, Step, end, constant, add, readCookie, writeCookie, sendRequest, skipIfZero, stepOf, stepAt, Progress, register, isScript, ended, goesOn, goesOnAfter, requested, step, stopped, followed, runFrom, startingWith, runScript}
-use Rattle.machine.specs.Machine.{Arrived, DocumentResponse, ScriptResponse, Redirect, Event, Load, Arrival, carriesNames, named, pending, ofKind, awaited, ofTarget, readersAllow, writersAllow, receive, perform}
+use Rattle.machine.specs.Session.{presenceAt, cookieValue, connectionWord, free, documentKind, scriptKind, pictureKind, packed, kindOf, originOf, handlerOf, urlOf, kindSound, urlSound, Cookie, setCookie, storeCookie, storeCookies, setConnection, request, Effects, send}
+use Rattle.machine.specs.Scripts.{stepLimit, scriptAt, Step, end, constant, add, readCookie, writeCookie, sendRequest, skipIfZero, sendPicture, stepOf, stepAt, Progress, register, isScript, ended, goesOn, goesOnAfter, requested, step, stopped, followed, runFrom, startingWith, runScript}
+use Rattle.machine.specs.Machine.{Arrived, DocumentResponse, ScriptResponse, PictureResponse, Redirect, Event, Load, Arrival, carriesNames, named, pending, ofKind, awaited, ofTarget, readersAllow, writersAllow, receive, perform}
 use Rattle.machine.proofs.Lists.{Each, each-append, each-set, each-at}
 use Rattle.machine.proofs.Accepted.{eventIn, Passed}
 use Rattle.machine.proofs.Events.{KeysBelow, EventKeys, event-keys, EventCookies, event-cookies, ArrivedValue, EventValue, event-value}
@@ -40,6 +40,7 @@ StepValue Q (readCookie a k) = Unit {0}
 StepValue Q (writeCookie k b) = Unit {0}
 StepValue Q (sendRequest u m h) = Unit {0}
 StepValue Q (skipIfZero a b) = Unit {0}
+StepValue Q (sendPicture u m) = Unit {0}
 
 abbrev CodeValues : (ℕ → Type 0) → List ℕ → Type 0
 CodeValues Q code = (i : ℕ) → Q (256 * getD code (4 * i + 2) 0 + getD code (4 * i + 3) 0)
@@ -51,7 +52,7 @@ step-value : (Q : ℕ → Type 0) (code : List ℕ) → CodeValues Q code → (i
 unfolding stepAt stepOf
 step-value Q code q i =
     let S = StepValue Q in
-    one S _ (λ _. q i) (λ _. one S _ (λ _. tt) (λ _. one S _ (λ _. tt) (λ _. one S _ (λ _. tt) (λ _. one S _ (λ _. tt) (λ _. one S _ (λ _. tt) (λ _. tt))))))
+    one S _ (λ _. q i) (λ _. one S _ (λ _. tt) (λ _. one S _ (λ _. tt) (λ _. one S _ (λ _. tt) (λ _. one S _ (λ _. tt) (λ _. one S _ (λ _. tt) (λ _. one S _ (λ _. tt) (λ _. tt)))))))
 
 module _ (p : List ℕ) (Q : ℕ → Type 0) (R : Record → Type 0) (laws : Keeps p Q R) where
   -- ---- cookies that are brought, and requests
@@ -122,6 +123,7 @@ module _ (p : List ℕ) (Q : ℕ → Type 0) (R : Record → Type 0) (laws : Kee
     step-kept (sendRequest u m h) q i rs s all good = requests i rs s all good scriptKind page h u m (λ handler. search joined)
     step-kept (skipIfZero a b) q i rs s all good =
         one (Going p Q R) _ (λ _. one (Going p Q R) _ (λ _. goes (suc i + b) rs s all good) (λ _. goes (suc i) rs s all good)) (λ _. ends i rs s all good)
+    step-kept (sendPicture u m) q i rs s all good = requests i rs s all good pictureKind 0 0 u m (λ _. tt)
 
     run-kept : (fuel : ℕ) (code : ℕ → Step) → ((i : ℕ) → StepValue Q (code i)) → (i : ℕ) (rs s : List ℕ) → Each Q rs → Sound p Q s
         → Good p Q R fuel (runFrom fuel code p n page i rs s)
@@ -161,6 +163,9 @@ module _ (p : List ℕ) (Q : ℕ → Type 0) (R : Record → Type 0) (laws : Kee
         let word = connectionWord s n in
         let t = word-fields p n word (good .words n l) (search parts) in
         response-kept u n cs (originOf word) (handlerOf word) v l keys values (script-fields p (kindOf word) (originOf word) (handlerOf word) (search parts) kind .0) q
+    receive-kept u n cs PictureResponse url l names waits kind r w keys values q =
+        let stored = storeCookies p n (urlHost p u) cs s in
+        stops stepLimit (setConnection n free stored) (connection-freed p Q stored (store-kept n (urlHost p u) (omega arith) cs keys values s good) n l)
     receive-kept u n cs (Redirect v) url l names waits kind r w keys values q =
         let word = connectionWord s n in
         let t = word-fields p n word (good .words n l) (search parts) in

@@ -7,7 +7,7 @@ use Rattle.labels.specs.Addresses.{hosts}
 use Rattle.machine.specs.Policy.{hostKeys, connections, cookieIndex, urlHost, mayStore, redirectReaders, redirectWriters}
 use Rattle.machine.specs.Session.{stateWords, free, documentKind, connectionWord, kindOf, originOf, handlerOf, urlOf, Cookie, storeCookie, storeCookies, setConnection}
 use Rattle.machine.specs.Scripts.{runScript}
-use Rattle.machine.specs.Machine.{Arrived, DocumentResponse, ScriptResponse, Redirect, Event, Load, Arrival, named, pending, ofKind, awaited, ofTarget, readersAllow, writersAllow, receive, perform}
+use Rattle.machine.specs.Machine.{Arrived, DocumentResponse, ScriptResponse, PictureResponse, Redirect, Event, Load, Arrival, named, pending, ofKind, awaited, ofTarget, readersAllow, writersAllow, receive, perform}
 use Rattle.machine.proofs.Accepted.{allowed, allowed-by, react}
 use Rattle.machine.proofs.Events.{KeysBelow, EventKeys, connection-below}
 use Rattle.machine.proofs.Observer.{Observer, Laws, Agree, agree-refl, agree-trans, agree-sym, unseen-cookie, unseen-connection, same-cookie, same-connection}
@@ -76,6 +76,9 @@ module _ (p : List ℕ) (v : Observer) (laws : Laws p v) where
     unfolding receive
     receive-quiet n word (DocumentResponse x) s l hidden whole r w = respond-quiet n (urlOf word) x 0 s l hidden whole
     receive-quiet n word (ScriptResponse value) s l hidden whole r w = respond-quiet n (originOf word) (handlerOf word) value s l hidden whole
+    receive-quiet n word PictureResponse s l hidden whole r w =
+        let a = unseen-connection v s whole n free hidden in
+        after-quiet v s (setConnection n free s) _ a (stopped-quiet v (setConnection n free s) (a .right))
     receive-quiet n word (Redirect t) s l hidden whole r w =
         send-quiet p v laws n (kindOf word) (originOf word) (handlerOf word) t s whole hidden
         (unseen (v .seesRequest t) (v .seesConnection n) (laws .redirects n t r w) hidden)
@@ -98,6 +101,7 @@ module _ (p : List ℕ) (v : Observer) (laws : Laws p v) where
     receive-alike n word (DocumentResponse x) s t l a = script-alike p v laws scripts n (urlOf word) x 0 _ _ (same-connection v s t a n free l)
     receive-alike n word (ScriptResponse value) s t l a =
         script-alike p v laws scripts n (originOf word) (handlerOf word) value _ _ (same-connection v s t a n free l)
+    receive-alike n word PictureResponse s t l a = stopped-alike v _ _ (same-connection v s t a n free l)
     receive-alike n word (Redirect to) s t l a = send-alike p v laws n (kindOf word) (originOf word) (handlerOf word) to s t l a
 
     perform-alike : (e : Event) (s t : List ℕ) → T (named p e) → EventKeys e → T (seesEvent v e) → Agree v s t

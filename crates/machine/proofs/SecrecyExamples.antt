@@ -1,10 +1,20 @@
 -- The examples beside demand 3 hold: they are computed.
 use Rattle.machine.specs.Cases.{with, emptyRows, policyWith, stepBytes, stepsBytes, scriptsWith, sameNumbers}
 use Rattle.machine.specs.Secrecy.{feedAll, run, shownCookies, shown, shownRecord, shownRecords, remaining, observationOf, observations}
-use Rattle.machine.specs.SecrecyExamples.{hiddenUnseen, toldApart, saysSomething, SaysSomething}
+use Rattle.machine.specs.SecrecyExamples.{hiddenUnseen, hiddenPictureUnseen, toldApart, saysSomething, saysSomethingOfPictures, SaysSomething, PicturesSaySomething}
 use Rattle.machine.proofs.Computing.{machine}
 
-pub says-something : SaysSomething
+-- what the examples are told with, opened too
+unfoldable pub examples : Unit {0}
 unfolding machine with emptyRows policyWith stepBytes stepsBytes scriptsWith sameNumbers
-    feedAll run shownCookies shown shownRecord shownRecords remaining observationOf observations hiddenUnseen toldApart saysSomething
+    feedAll run shownCookies shown shownRecord shownRecords remaining observationOf observations
+    hiddenUnseen hiddenPictureUnseen toldApart saysSomething saysSomethingOfPictures
+examples = tt
+
+pub says-something : SaysSomething
+unfolding examples
 says-something = tt
+
+pub pictures-say-something : PicturesSaySomething
+unfolding examples
+pictures-say-something = tt

@@ -1,13 +1,13 @@
 -- A request looks the same to an observer from states that agree, and of one that it does not see there is no observation.
-use Rattle.prelude.proofs.Kit.{ℕ, _<_, suc, zero, arith, _&&_, Bool, false, not, List, _∷_, [], map, ⊎-elim, _≡_, sym, _∙_, refl, ap}
+use Rattle.prelude.proofs.Kit.{ℕ, _<_, suc, zero, arith, _&&_, Bool, not, List, _∷_, [], map, ⊎-elim, _≡_, sym, _∙_, refl, ap}
 use Rattle.prelude.proofs.Kit.{ap₂, T, eqb, getD, and-r}
 use mathlib.Core.Bool.{and-comm}
 use Rattle.prelude.specs.Choice.{branch, keep}
 use Rattle.prelude.proofs.Choices.{either, and-alike, one, two, branch-false, keep-one, keep-none}
 use Rattle.records.specs.declared.Record.{Record}
-use Rattle.records.specs.Layout.{keyNumbers, documentRequest, scriptRequest, withCookies}
+use Rattle.records.specs.Layout.{keyNumbers, documentRequest, scriptRequest, pictureRequest, withCookies}
 use Rattle.machine.specs.Policy.{hostKeys, cookieIndex, urlHost, mayCarry}
-use Rattle.machine.specs.Session.{scriptKind, plainRequest, cookieValue, present, has, keyMap, Cookie, attaches, requestMap, request}
+use Rattle.machine.specs.Session.{scriptKind, pictureKind, plainRequest, cookieValue, present, has, keyMap, Cookie, attaches, requestMap, request}
 use Rattle.machine.specs.Machine.{plainMap, cookiesOf}
 use Rattle.machine.specs.Secrecy.{Observation}
 use Rattle.machine.proofs.Lists.{Each}
@@ -17,7 +17,9 @@ use Rattle.machine.proofs.Observer.{Observer, Laws, Agree, observationB
 -- the kind of a request does not go by its cookies
 plain-map : (kind keys : ℕ) → plainMap (requestMap kind keys) ≡ plainRequest kind
 unfolding requestMap plainRequest
-plain-map kind keys = one Kept (eqb kind scriptKind) (λ _. either-way scriptRequest refl refl) (λ _. either-way documentRequest refl refl)
+plain-map kind keys =
+    one Kept (eqb kind scriptKind) (λ _. either-way scriptRequest refl refl)
+    (λ _. one Kept (eqb kind pictureKind) (λ _. either-way pictureRequest refl refl) (λ _. either-way documentRequest refl refl))
   where
     Kept : ℕ → Type 0
     Kept m = plainMap (branch (eqb keys 0) m (withCookies m)) ≡ m

@@ -8,7 +8,7 @@ use Rattle.prelude.proofs.Choices.{parts, one}
 use Rattle.records.specs.declared.Direction.the-variants.{Request}
 use Rattle.records.specs.declared.Record.{Record}
 use Rattle.records.specs.Bytes.{bit}
-use Rattle.records.specs.Layout.{keyNumbers, documentRequest, scriptRequest, withCookies, longest, widths, values}
+use Rattle.records.specs.Layout.{keyNumbers, documentRequest, scriptRequest, pictureRequest, withCookies, longest, widths, values}
 use Rattle.records.specs.Codec.{isOneOf, noKeySet, carriable}
 use Rattle.records.specs.RoundTrips.{EightCookies}
 use Rattle.records.proofs.RoundTrips.{AllCarriable, none, more}
@@ -62,9 +62,11 @@ module _ (p s : List ℕ) (n kind handler u : ℕ) (values-small : (k : ℕ) →
       let zero-keys : T (eqb keys 0) → keys ≡ 0 = eqb→eq keys 0 in
       one Carried _
       (λ z. one Carried _ (λ _. carriable-by Request (made scriptRequest) tt tt (omega (arith, zero-keys z)))
-      (λ t. carriable-by Request (made documentRequest) tt tt (omega (arith, zero-keys z, bare t))))
+      (λ t. one Carried _ (λ _. carriable-by Request (made pictureRequest) tt tt (omega (arith, zero-keys z, bare t)))
+      (λ _. carriable-by Request (made documentRequest) tt tt (omega (arith, zero-keys z, bare t)))))
       (λ z. one (λ m. Carried (withCookies m)) _ (λ _. carriable-by Request (made (withCookies scriptRequest)) tt z (omega arith))
-      (λ t. carriable-by Request (made (withCookies documentRequest)) tt z (omega (arith, bare t))))
+      (λ t. one (λ m. Carried (withCookies m)) _ (λ _. carriable-by Request (made (withCookies pictureRequest)) tt z (omega (arith, bare t)))
+      (λ _. carriable-by Request (made (withCookies documentRequest)) tt z (omega (arith, bare t)))))
 
 -- ---- a call
 

@@ -7,7 +7,7 @@ use Rattle.prelude.proofs.Choices.{parts, joined}
 use Rattle.labels.specs.Addresses.{hosts}
 use Rattle.labels.proofs.Below.{all-at, all-of, or-cases, or-r}
 use Rattle.machine.specs.Policy.{urlRows, hostKeys, connections, cookieIndex, isUrl}
-use Rattle.machine.specs.Session.{presenceAt, connectionsAt, stateWords, emptyState, cookieValue, presence, connectionWord, present, free, documentKind, scriptKind, packed, kindOf, originOf, handlerOf, urlOf, scriptCount, cookieSound, hostSound, scriptFields, bareFields, kindSound, urlSound, connectionSound, sound, setCookie, setConnection}
+use Rattle.machine.specs.Session.{presenceAt, connectionsAt, stateWords, emptyState, cookieValue, presence, connectionWord, present, free, documentKind, scriptKind, pictureKind, packed, kindOf, originOf, handlerOf, urlOf, scriptCount, cookieSound, hostSound, scriptFields, bareFields, kindSound, urlSound, connectionSound, sound, setCookie, setConnection}
 use Rattle.machine.proofs.KeyMaps.{map-below}
 use Rattle.machine.proofs.StateWords.{length-cookie, length-connection, value-here, value-elsewhere, presence-here, presence-elsewhere, present-here, present-elsewhere, connection-past-cookie, connection-here, connection-elsewhere, value-past-connection, presence-past-connection}
 use Rattle.machine.proofs.ConnectionWords.{kind-packed, origin-packed, handler-packed, url-packed}
@@ -124,7 +124,7 @@ module _ (p : List ℕ) where
     unfolding kindSound
     kind-bytes =
         ⊎-elim
-        (λ b. let ek = eqb→eq k documentKind (search parts) in let eo = eqb→eq o 0 (search parts) in let eh = eqb→eq h 0 (search parts) in (omega arith, omega arith, omega arith))
+        (λ b. let lk : k < 256 = ⊎-elim (λ d. omega (arith, eqb→eq k documentKind d)) (λ d. omega (arith, eqb→eq k pictureKind d)) (or-cases (eqb k documentKind) (eqb k pictureKind) (search parts)) in let eo = eqb→eq o 0 (search parts) in let eh = eqb→eq h 0 (search parts) in (lk, omega arith, omega arith))
         (λ s. let ek = eqb→eq k scriptKind (search parts) in let lh = ltb→lt h scriptCount (search parts) in (omega arith, url-byte o (search parts), omega arith))
         (or-cases (bareFields k o h) (scriptFields p k o h) t)
 

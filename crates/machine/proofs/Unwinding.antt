@@ -5,8 +5,8 @@ use Rattle.prelude.proofs.Kit.{T, eqb, ltb, ltb→lt, T-not, not-T, length, set
 use Rattle.prelude.specs.Choice.{keep}
 use Rattle.prelude.proofs.Choices.{parts, either, and-alike, one, two}
 use Rattle.machine.specs.Policy.{hostKeys, connections, cookieIndex, urlHost, isUrl, isConnection, mayRead, mayWrite, maySend}
-use Rattle.machine.specs.Session.{stateWords, scriptKind, cookieValue, present, packed, Effects, send}
-use Rattle.machine.specs.Scripts.{scriptSteps, stepLimit, Step, end, constant, add, readCookie, writeCookie, sendRequest, skipIfZero, stepAt, scriptAt, Progress, register, isRegister, isKey, isScript, ended, goesOn, goesOnAfter, requested, step, stopped, followed, runFrom, startingWith, runScript}
+use Rattle.machine.specs.Session.{stateWords, scriptKind, pictureKind, cookieValue, present, packed, Effects, send}
+use Rattle.machine.specs.Scripts.{scriptSteps, stepLimit, Step, end, constant, add, readCookie, writeCookie, sendRequest, skipIfZero, sendPicture, stepAt, scriptAt, Progress, register, isRegister, isKey, isScript, ended, goesOn, goesOnAfter, requested, step, stopped, followed, runFrom, startingWith, runScript}
 use Rattle.machine.proofs.Observer.{Observer, Laws, Agree, observationsBy, observations-append, agree-refl, agree-sym, agree-trans, unseen-cookie, unseen-connection, same-cookie, same-connection}
 use Rattle.machine.proofs.SeenRequests.{unseen-request, same-request}
 
@@ -133,6 +133,7 @@ module _ (p : List ℕ) (v : Observer) (laws : Laws p v) where
         two Lock (isRegister r) (isRegister r) refl
         (λ _. two Lock (eqb (register rs r) 0) (eqb (register rs r) 0) refl (λ _. goes (suc i + k) rs rs s t refl a) (λ _. goes (suc i) rs rs s t refl a))
         (λ _. ends rs s t a)
+    lock seen (sendPicture u m) i rs s t a = requests pictureKind 0 0 u m i rs s t a
 
     -- quiet where it does not
     module _ (hidden : T (not (v .seesScript n))) (s : List ℕ) (whole : length s ≡ stateWords) where
@@ -179,6 +180,7 @@ module _ (p : List ℕ) (v : Observer) (laws : Laws p v) where
           one (QuietStep s) (isRegister r)
           (λ _. one (QuietStep s) (eqb (register rs r) 0) (λ _. goes-quiet (suc i + k) rs s (agree-refl v s whole)) (λ _. goes-quiet (suc i) rs s (agree-refl v s whole)))
           (λ _. ends-quiet rs)
+      quiet (sendPicture u m) i rs = requests-quiet pictureKind 0 0 u m i rs
 
     -- ---- a run
 

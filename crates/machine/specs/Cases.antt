@@ -6,8 +6,9 @@ use lib.Dec.{T, eqb}
 use lib.ListN.{length, drop, replicate}
 use lib.Seq.{sets}
 use Rattle.machine.specs.Policy.{urlRows, policyWords, cookieLabelsAt, connectionLabelsAt, cookieIndex, noAddress}
-use Rattle.machine.specs.Session.{emptyState, presenceAt, connectionsAt, packed, documentKind, scriptKind}
-use Rattle.machine.specs.Scripts.{scriptBytes, tableBytes, Step, end, constant, add, readCookie, writeCookie, sendRequest, skipIfZero}
+use Rattle.machine.specs.Session.{emptyState, presenceAt, connectionsAt, packed, documentKind, scriptKind, pictureKind}
+use Rattle.machine.specs.Scripts.{scriptBytes, tableBytes, Step, end, constant}
+use Rattle.machine.specs.Scripts.{add, readCookie, writeCookie, sendRequest, skipIfZero, sendPicture}
 use Rattle.machine.specs.Machine.{outputRoom, Fed, feed}
 
 -- ---- policies, script tables and states from what is in them
@@ -57,6 +58,7 @@ stepBytes (readCookie a k) = 3 ∷ a ∷ k ∷ 0 ∷ []
 stepBytes (writeCookie k b) = 4 ∷ k ∷ b ∷ 0 ∷ []
 stepBytes (sendRequest u m h) = 5 ∷ u ∷ m ∷ h ∷ []
 stepBytes (skipIfZero a b) = 6 ∷ a ∷ b ∷ 0 ∷ []
+stepBytes (sendPicture u m) = 7 ∷ u ∷ m ∷ 0 ∷ []
 
 unfoldable pub stepsBytes : List Step → List ℕ
 stepsBytes [] = []
@@ -83,6 +85,9 @@ loading n u = connectionIs n (packed documentKind 0 0 u)
 
 abbrev pub requesting : ℕ → ℕ → ℕ → ℕ → Words
 requesting n origin handler u = connectionIs n (packed scriptKind origin handler u)
+
+abbrev pub picturing : ℕ → ℕ → Words
+picturing n u = connectionIs n (packed pictureKind 0 0 u)
 
 -- ---- a case
 

@@ -10,10 +10,10 @@ use Rattle.prelude.specs.Refusals.{accepted, Refusal, refuse, firstOf}
 use Rattle.records.specs.declared.Direction.the-variants.{Input, Request}
 use Rattle.records.specs.declared.Record.{Record}
 use Rattle.records.specs.Bytes.{bit}
-use Rattle.records.specs.Layout.{keyNumbers, cookiesBit, load, documentResponse, scriptResponse, longest}
+use Rattle.records.specs.Layout.{keyNumbers, cookiesBit, load, documentResponse, scriptResponse, pictureResponse, longest}
 use Rattle.records.specs.Codec.{readRefusals, decoded, writeRun}
 use Rattle.machine.specs.Policy.{urlHost, wellFormed, isUrl, isConnection, loadReaders, loadWriters, redirectReaders, redirectWriters}
-use Rattle.machine.specs.Session.{free, documentKind, scriptKind, connectionWord, kindOf, originOf, handlerOf, urlOf, sound}
+use Rattle.machine.specs.Session.{free, documentKind, scriptKind, pictureKind, connectionWord, kindOf, originOf, handlerOf, urlOf, sound}
 use Rattle.machine.specs.Session.{has, Cookie, storeCookies, setConnection, Effects, send}
 use Rattle.machine.specs.Scripts.{stepLimit, tableBytes, isScript, stopped, runScript}
 
@@ -23,6 +23,7 @@ use Rattle.machine.specs.Scripts.{stepLimit, tableBytes, isScript, stopp
 pub data Arrived : Type 0 where
   DocumentResponse : (script : ℕ) → Arrived
   ScriptResponse : (value : ℕ) → Arrived
+  PictureResponse : Arrived
   Redirect : (target : ℕ) → Arrived
 
 -- a page is loaded, or something arrives for a URL, with cookies
@@ -44,7 +45,8 @@ arrivedOf r =
     let m = plainMap (r .map) in
     branch (eqb m documentResponse) (DocumentResponse (r .script))
     (branch (eqb m scriptResponse) (ScriptResponse (r .value))
-    (Redirect (r .target)))
+    (branch (eqb m pictureResponse) PictureResponse
+    (Redirect (r .target))))
 
 unfoldable pub eventOf : Record → Event
 eventOf r = branch (eqb (plainMap (r .map)) load) (Load (r .url) (r .connection)) (Arrival (r .url) (r .connection) (cookiesOf r) (arrivedOf r))
@@ -55,6 +57,7 @@ eventOf r = branch (eqb (plainMap (r .map)) load) (Load (r .url) (r .connection)
 abbrev pub carriesNames : List ℕ → Arrived → Bool
 carriesNames p (DocumentResponse x) = isScript x
 carriesNames p (ScriptResponse v) = true
+carriesNames p PictureResponse = true
 carriesNames p (Redirect t) = isUrl p t
 
 unfoldable pub named : List ℕ → Event → Bool
@@ -69,6 +72,7 @@ pending s n u = not (eqb (connectionWord s n) free) && eqb (urlOf (connectionWor
 abbrev pub ofKind : ℕ → Arrived → Bool
 ofKind kind (DocumentResponse x) = eqb kind documentKind
 ofKind kind (ScriptResponse v) = eqb kind scriptKind
+ofKind kind PictureResponse = eqb kind pictureKind
 ofKind kind (Redirect t) = true
 
 -- 7: what arrives is waited for on its connection; a load need not be
@@ -80,6 +84,7 @@ awaited s (Arrival u n cs what) = pending s n u && ofKind (kindOf (connectionWor
 abbrev pub ofTarget : (ℕ → Bool) → Arrived → Bool
 ofTarget test (DocumentResponse x) = true
 ofTarget test (ScriptResponse v) = true
+ofTarget test PictureResponse = true
 ofTarget test (Redirect t) = test t
 
 -- 8: the conditions on readers
@@ -157,10 +162,11 @@ refusal p scripts s bytes out = firstOf (refusals p scripts s bytes out) accepte
 
 -- What arrives on connection n, whose word is given, once its cookies are stored. A response frees the connection, then a script runs: for a
 -- document the script that the record names, and the page is the connection's URL; for a script's request the connection's handler, and the
--- page is the one that sent the request. A redirect moves the connection to the target.
+-- page is the one that sent the request; for a picture none. A redirect moves the connection to the target.
 unfoldable pub receive : List ℕ → List ℕ → ℕ → ℕ → Arrived → List ℕ → Effects
 receive p scripts n word (DocumentResponse x) s = runScript p scripts n (urlOf word) x 0 (setConnection n free s)
 receive p scripts n word (ScriptResponse v) s = runScript p scripts n (originOf word) (handlerOf word) v (setConnection n free s)
+receive p scripts n word PictureResponse s = stopped (setConnection n free s)
 receive p scripts n word (Redirect t) s = send p n (kindOf word) (originOf word) (handlerOf word) t s
 
 -- A load opens its connection. Of what arrives the cookies are stored first, for the host of the record's URL.

@@ -1,14 +1,17 @@
 -- A second list of worked cases: document 01's other examples; what each record does to connections, handlers and cookies; each condition
--- of the policy where it alone fails; how scripts end; and which number a record has where several apply.
+-- of the policy where it alone fails; pictures; how scripts end; and which number a record has where several apply.
 use Prim.Native.Nat.{ℕ}
 use mathlib.Core.Bool.{_&&_}
 use mathlib.Core.List.{List, [], _∷_, _++_}
 use lib.Dec.{T}
 use lib.ListN.{take, replicate}
-use Rattle.machine.specs.Scripts.{Step, end, constant, add, readCookie, writeCookie, sendRequest, skipIfZero}
+use Rattle.machine.specs.Scripts.{Step, end, constant, add, readCookie, writeCookie, sendRequest, skipIfZero, sendPicture}
+use Rattle.machine.specs.Session.{packed, pictureKind}
 use Rattle.machine.specs.Machine.{outputRoom}
-use Rattle.machine.specs.Cases.{Words, url, cookieLabel, connection, policyWith, scriptsWith, scriptIs, scriptOf, valueIs, keysAre}
-use Rattle.machine.specs.Cases.{loading, requesting, Call, Case, allRight, call, refused, policyP, fromEmpty, loadZero, sevenStored, caseA}
+use Rattle.machine.specs.Cases.{Words, url, cookieLabel, connection, policyWith}
+use Rattle.machine.specs.Cases.{scriptsWith, scriptIs, scriptOf, valueIs, keysAre, connectionIs}
+use Rattle.machine.specs.Cases.{loading, requesting, picturing, Call, Case, allRight}
+use Rattle.machine.specs.Cases.{call, refused, policyP, fromEmpty, loadZero, sevenStored, caseA}
 
 -- ---- document 01's other examples
 
@@ -35,7 +38,7 @@ otherExamples =
     -- a load is not asked whether its event endpoint is among the connection's readers, nor for the URL's writers
     ∷ fromEmpty (call (0x03 ∷ 0x00 ∷ 0x02 ∷ []) 0 0 (0x03 ∷ 0x00 ∷ 0x02 ∷ []) (loading 2 0 ∷ []) ∷ [])
     ∷ fromEmpty (call (0x03 ∷ 0x02 ∷ 0x01 ∷ []) 0 0 (0x03 ∷ 0x02 ∷ 0x01 ∷ []) (loading 1 2 ∷ []) ∷ [])
-    -- 7: a free connection; another URL; the other kind
+    -- 7: a free connection; another URL; another kind
     ∷ fromEmpty (refused (0x0b ∷ 0x00 ∷ 0x00 ∷ 0x00 ∷ []) 7 [] ∷ [])
     ∷ fromEmpty (caseA
     ∷ refused (0x0b ∷ 0x03 ∷ 0x00 ∷ 0x00 ∷ []) 7 (loading 0 0 ∷ [])
@@ -226,6 +229,67 @@ casesOfConnections =
     (valueIs 0 6 0x0102 ∷ keysAre 0 0x40 ∷ [])
     ∷ []
 
+-- ---- pictures
+
+-- what script 0 does where it runs: it stores 9 as key 0 and requests URL 1 on connection 1
+abbrev pub actingScript : List Words
+actingScript = scriptOf 0 (constant 1 9 ∷ writeCookie 0 1 ∷ sendRequest 1 1 0 ∷ end ∷ []) ∷ []
+
+abbrev pub casesOfPictures : List Case
+casesOfPictures =
+    -- Step 7 where it is allowed: URL 1 on connection 1, without cookies and with them. It replaces what was pending.
+    pageRuns [] (sendPicture 1 1 ∷ end ∷ []) 2 (0x43 ∷ 0x01 ∷ 0x01 ∷ []) (picturing 1 1 ∷ [])
+    ∷ pageRuns hostOneNine (sendPicture 1 1 ∷ end ∷ []) 2
+    (0x47 ∷ 0x01 ∷ 0x01 ∷ 0x01 ∷ 0x00 ∷ 0x00 ∷ 0x00 ∷ 0x09 ∷ []) (picturing 1 1 ∷ hostOneNine)
+    ∷ pageRuns handlerWaiting (sendPicture 5 1 ∷ end ∷ []) 2 (0x43 ∷ 0x05 ∷ 0x01 ∷ []) (picturing 1 5 ∷ [])
+    -- Its third field is not used: 255 is no handler.
+    ∷ inQ (scriptIs 1 (7 ∷ 1 ∷ 1 ∷ 255 ∷ []) ∷ []) pageLoading pageResponse 0 2 (0x43 ∷ 0x01 ∷ 0x01 ∷ []) (picturing 1 1 ∷ [])
+    -- the conditions of step 5, each where it alone fails: event endpoint, readers of the connection, its fit (readers, message endpoint), J
+    -- within the connection's writers and within the URL's
+    ∷ pageRuns [] (sendPicture 0 1 ∷ end ∷ []) 1 [] []
+    ∷ pageRuns [] (sendPicture 1 2 ∷ end ∷ []) 1 [] []
+    ∷ pageRuns [] (sendPicture 3 1 ∷ end ∷ []) 1 [] []
+    ∷ pageRuns [] (sendPicture 1 3 ∷ end ∷ []) 1 [] []
+    ∷ pageRuns [] (sendPicture 1 4 ∷ end ∷ []) 1 [] []
+    ∷ pageRuns [] (sendPicture 4 1 ∷ end ∷ []) 1 [] []
+    -- A picture's response frees the connection, and stores what it brings. Nothing runs, though script 0 would act, as it does for a document.
+    ∷ inQ actingScript (picturing 1 1 ∷ []) (0x43 ∷ 0x01 ∷ 0x01 ∷ []) 0 0 [] []
+    ∷ inQ actingScript (picturing 1 1 ∷ []) (0x47 ∷ 0x01 ∷ 0x01 ∷ 0x01 ∷ 0x00 ∷ 0x00 ∷ 0x00 ∷ 0x09 ∷ []) 0 0 [] hostOneNine
+    ∷ inQ actingScript (loading 1 1 ∷ []) (0x0b ∷ 0x01 ∷ 0x01 ∷ 0x00 ∷ []) 0 4
+    (0x0f ∷ 0x01 ∷ 0x01 ∷ 0x01 ∷ 0x00 ∷ 0x00 ∷ 0x00 ∷ 0x09 ∷ 0x00 ∷ []) (requesting 1 1 0 1 ∷ hostOneNine)
+    -- 7: a picture's response on a free connection, on one that holds another URL, on a document's and on a script request's; a document's and a
+    -- script request's on a picture's
+    ∷ refusedInQ [] (0x43 ∷ 0x01 ∷ 0x01 ∷ []) 7
+    ∷ refusedInQ (picturing 1 5 ∷ []) (0x43 ∷ 0x01 ∷ 0x01 ∷ []) 7
+    ∷ refusedInQ (loading 1 1 ∷ []) (0x43 ∷ 0x01 ∷ 0x01 ∷ []) 7
+    ∷ refusedInQ handlerWaiting (0x43 ∷ 0x01 ∷ 0x01 ∷ []) 7
+    ∷ refusedInQ (picturing 1 1 ∷ []) (0x0b ∷ 0x01 ∷ 0x01 ∷ 0x00 ∷ []) 7
+    ∷ refusedInQ (picturing 1 1 ∷ []) (0x13 ∷ 0x01 ∷ 0x01 ∷ 0x00 ∷ 0x00 ∷ 0x00 ∷ 0x09 ∷ []) 7
+    -- 6: the URL has an empty row, or none; there is no connection 32
+    ∷ refusedInQ [] (0x43 ∷ 0x07 ∷ 0x01 ∷ []) 6
+    ∷ refusedInQ [] (0x43 ∷ 0x40 ∷ 0x01 ∷ []) 6
+    ∷ refusedInQ [] (0x43 ∷ 0x01 ∷ 0x20 ∷ []) 6
+    -- A picture that is redirected twice, the first time with a cookie: both requests are a picture's, and so is the response at the end.
+    ∷ record {
+      scripts = scriptsWith [];
+      room = outputRoom;
+      start = picturing 1 1 ∷ [];
+      calls =
+          call (0x27 ∷ 0x01 ∷ 0x01 ∷ 0x01 ∷ 0x00 ∷ 0x00 ∷ 0x00 ∷ 0x09 ∷ 0x05 ∷ []) 0 0
+          (0x47 ∷ 0x05 ∷ 0x01 ∷ 0x01 ∷ 0x00 ∷ 0x00 ∷ 0x00 ∷ 0x09 ∷ []) (picturing 1 5 ∷ hostOneNine)
+          ∷ call (0x23 ∷ 0x05 ∷ 0x01 ∷ 0x02 ∷ []) 0 0 (0x43 ∷ 0x02 ∷ 0x01 ∷ []) (picturing 1 2 ∷ hostOneNine)
+          ∷ call (0x43 ∷ 0x02 ∷ 0x01 ∷ []) 0 0 [] hostOneNine
+          ∷ [];
+    }
+    -- 8: the event endpoint of URL 0 is not among the connection's readers; its readers are not within those of URL 3. 9: the message endpoint of
+    -- URL 1 is not among the writers of connection 3
+    ∷ refusedInQ (picturing 1 2 ∷ []) (0x23 ∷ 0x02 ∷ 0x01 ∷ 0x00 ∷ []) 8
+    ∷ refusedInQ (picturing 1 2 ∷ []) (0x23 ∷ 0x02 ∷ 0x01 ∷ 0x03 ∷ []) 8
+    ∷ refusedInQ (picturing 3 2 ∷ []) (0x23 ∷ 0x02 ∷ 0x03 ∷ 0x01 ∷ []) 9
+    -- A load replaces a picture.
+    ∷ inQ [] (picturing 1 1 ∷ []) (0x03 ∷ 0x02 ∷ 0x01 ∷ []) 0 0 (0x03 ∷ 0x02 ∷ 0x01 ∷ []) (loading 1 2 ∷ [])
+    ∷ []
+
 -- ---- how a script ends
 
 -- The page's script is one step, given by its bytes, and ends there. Host 0 has key 1, which the script may read.
@@ -235,7 +299,7 @@ endsAt bytes = inQ (scriptIs 1 bytes ∷ []) (pageLoading ++ nineFor 1 0x02) pag
 abbrev pub casesOfEndings : List Case
 casesOfEndings =
     -- operations that are not known; with these fields a script would go on after each that is
-    endsAt (7 ∷ 1 ∷ 1 ∷ 1 ∷ [])
+    endsAt (8 ∷ 1 ∷ 1 ∷ 1 ∷ [])
     ∷ endsAt (13 ∷ 1 ∷ 1 ∷ 1 ∷ [])
     -- register 4, wherever a step names a register
     ∷ endsAt (1 ∷ 4 ∷ 1 ∷ 1 ∷ [])
@@ -248,6 +312,10 @@ casesOfEndings =
     -- step 5: handler 16; URL 67, where the words that follow the rows would make a URL that may be requested
     ∷ endsAt (5 ∷ 1 ∷ 1 ∷ 16 ∷ [])
     ∷ endsAt (5 ∷ 67 ∷ 1 ∷ 1 ∷ [])
+    -- step 7: that URL; an empty row; connection 32
+    ∷ endsAt (7 ∷ 67 ∷ 1 ∷ 1 ∷ [])
+    ∷ endsAt (7 ∷ 7 ∷ 1 ∷ 1 ∷ [])
+    ∷ endsAt (7 ∷ 1 ∷ 32 ∷ 1 ∷ [])
     ∷ []
 
 -- ---- the number, where several apply: the first of them
@@ -280,12 +348,17 @@ withPolicyP =
     ∷ []
 
 -- 4 and 10: a connection whose URL is 64, and one whose origin is. The words that follow the rows would make of 64 a URL that connection 5 fits.
--- And a connection that does not fit its URL.
+-- And a connection that does not fit its URL; a picture that has a handler, or an origin; a kind that there is not.
 abbrev pub withPolicyQ : List Case
 withPolicyQ =
     noRecord 1184 (scriptsWith []) (loading 5 64 ∷ []) 4
     ∷ noRecord 1184 (scriptsWith []) (requesting 5 64 0 1 ∷ []) 4
     ∷ noRecord 1184 (scriptsWith []) (loading 1 3 ∷ []) 4
+    ∷ noRecord 1184 (scriptsWith []) (picturing 5 64 ∷ []) 4
+    ∷ noRecord 1184 (scriptsWith []) (picturing 1 3 ∷ []) 4
+    ∷ noRecord 1184 (scriptsWith []) (connectionIs 1 (packed pictureKind 0 1 1) ∷ []) 4
+    ∷ noRecord 1184 (scriptsWith []) (connectionIs 1 (packed pictureKind 2 0 1) ∷ []) 4
+    ∷ noRecord 1184 (scriptsWith []) (connectionIs 1 (packed 4 0 0 1) ∷ []) 4
     ∷ []
 
 -- 2 and 10, where the last row has no address and a set that is not empty
@@ -305,7 +378,7 @@ withNoUrl =
 abbrev pub MoreCases : Type 0
 MoreCases = T (
     allRight policyP (otherExamples ++ withPolicyP)
-    && (allRight policyQ (casesOfConditions ++ (casesOfConnections ++ (casesOfEndings ++ withPolicyQ)))
+    && (allRight policyQ (casesOfConditions ++ (casesOfConnections ++ (casesOfPictures ++ (casesOfEndings ++ withPolicyQ))))
     && (allRight shortPolicy withShortPolicy
     && (allRight (policyWith (url 63 255 1 0 ∷ [])) withLastRow
     && (allRight (policyWith (url 63 255 0 1 ∷ [])) withLastRow

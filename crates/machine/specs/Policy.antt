@@ -123,7 +123,7 @@ mayRead p n c = within (scriptReaders p n) (cookieReaders p c) && within (cookie
 unfoldable pub mayWrite : List ℕ → ℕ → ℕ → Bool
 mayWrite p n c = within (cookieReaders p c) (scriptReaders p n) && within (connectionWriters p n) (cookieWriters p c)
 
--- step 5: it requests URL u on connection m
+-- steps 5 and 7: it requests URL u on connection m
 unfoldable pub maySend : List ℕ → ℕ → ℕ → ℕ → Bool
 maySend p n u m =
     holds (scriptReaders p n) (urlEvent p u)

@@ -8,7 +8,7 @@ use lib.ListN.{getD, set, take, drop}
 use Rattle.prelude.specs.Choice.{branch}
 use Rattle.records.specs.declared.Record.{Record}
 use Rattle.machine.specs.Policy.{hostKeys, cookieIndex, urlHost, isUrl, isConnection, mayRead, mayWrite, maySend}
-use Rattle.machine.specs.Session.{scriptCount, scriptKind, cookieValue, present, setCookie, Effects, send}
+use Rattle.machine.specs.Session.{scriptCount, scriptKind, pictureKind, cookieValue, present, setCookie, Effects, send}
 
 -- ---- the script table (document 01's shelf): 16 scripts of 32 steps of 4 bytes
 
@@ -36,6 +36,7 @@ pub data Step : Type 0 where
   writeCookie : (key register : ℕ) → Step
   sendRequest : (url connection handler : ℕ) → Step
   skipIfZero : (register count : ℕ) → Step
+  sendPicture : (url connection : ℕ) → Step
 
 -- the step of four bytes; an unknown operation ends the script as 0 does
 unfoldable pub stepOf : ℕ → ℕ → ℕ → ℕ → Step
@@ -46,7 +47,8 @@ stepOf op a b c =
     (branch (eqb op 4) (writeCookie a b)
     (branch (eqb op 5) (sendRequest a b c)
     (branch (eqb op 6) (skipIfZero a b)
-    end)))))
+    (branch (eqb op 7) (sendPicture a b)
+    end))))))
 
 -- step i of a script's bytes
 unfoldable pub stepAt : List ℕ → ℕ → Step
@@ -118,6 +120,7 @@ step p n page (skipIfZero a b) i rs s =
     (branch (eqb (register rs a) 0) (goesOn (suc i + b) rs s)
     (goesOn (suc i) rs s))
     (ended rs s)
+step p n page (sendPicture u m) i rs s = requested p n pictureKind 0 0 u m i rs s
 
 -- ---- a run
 

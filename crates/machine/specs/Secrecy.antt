@@ -85,7 +85,7 @@ remaining set p is = branch (wellFormed p) (shownRecords set p is) []
 -- Document 01 compares requests, cookies and connections. Which requests a set sees, and which cookies of them, is said in 002, Table I: a
 -- request by its event endpoint, its cookies by its message endpoint.
 
--- A request as a set sees it. Its kind, document or script, is the map byte without the bit for cookies.
+-- A request as a set sees it. Its kind, document, script or picture, is the map byte without the bit for cookies.
 pub record Observation : Type 0 where
   pub kind : ℕ
   pub url : ℕ

@@ -9,8 +9,8 @@ use Rattle.records.specs.declared.Record.{Record}
 use Rattle.records.specs.Codec.{bytesOf}
 use Rattle.machine.specs.Policy.{cookieIndex}
 use Rattle.machine.specs.Session.{cookieValue, Cookie}
-use Rattle.machine.specs.Scripts.{end, constant, writeCookie, sendRequest}
-use Rattle.machine.specs.Machine.{Arrived, DocumentResponse, ScriptResponse, Redirect, Event, Load, Arrival}
+use Rattle.machine.specs.Scripts.{end, constant, writeCookie, sendRequest, sendPicture}
+use Rattle.machine.specs.Machine.{Arrived, DocumentResponse, ScriptResponse, PictureResponse, Redirect, Event, Load, Arrival}
 use Rattle.machine.specs.Cases.{url, cookieLabel, connection, policyWith, scriptsWith, scriptOf, sameNumbers}
 use Rattle.machine.specs.Secrecy.{Item, Trace, run, remaining, Observation, observations}
 
@@ -24,7 +24,8 @@ cookieNumbers (c ∷ cs) = c .key ∷ c .value ∷ cookieNumbers cs
 abbrev pub arrivedNumbers : Arrived → List ℕ
 arrivedNumbers (DocumentResponse x) = 1 ∷ x ∷ []
 arrivedNumbers (ScriptResponse v) = 2 ∷ v ∷ []
-arrivedNumbers (Redirect t) = 3 ∷ t ∷ []
+arrivedNumbers PictureResponse = 3 ∷ []
+arrivedNumbers (Redirect t) = 4 ∷ t ∷ []
 
 abbrev pub eventNumbers : Event → List ℕ
 eventNumbers (Load u n) = 0 ∷ u ∷ n ∷ []
@@ -58,11 +59,14 @@ policyTwoHosts = policyWith (
     ∷ cookieLabel 1 1 0x00020000 0x00020003
     ∷ [])
 
--- Script 1 stores 9 in its page's cookie 0 and requests URL 0 on connection 0. Script 2 requests URL 1 on connection 1.
+-- Script 1 stores 9 in its page's cookie 0 and requests URL 0 on connection 0. Script 2 requests URL 1 on connection 1. Scripts 3 and 4 request
+-- pictures: of URL 0 on connection 0, and of URL 1 on connection 1.
 abbrev pub scriptsTwoHosts : List ℕ
 scriptsTwoHosts = scriptsWith (
     scriptOf 1 (constant 1 9 ∷ writeCookie 0 1 ∷ sendRequest 0 0 0 ∷ end ∷ [])
     ∷ scriptOf 2 (sendRequest 1 1 0 ∷ end ∷ [])
+    ∷ scriptOf 3 (sendPicture 0 0 ∷ end ∷ [])
+    ∷ scriptOf 4 (sendPicture 1 1 ∷ end ∷ [])
     ∷ [])
 
 -- http at host 1: URL 0, connection 0, cookie (0,0) and cookie (1,1) are hidden from it
@@ -105,7 +109,7 @@ withoutHidden = items 1200 0x00 (
     ∷ (0x03 ∷ 0x02 ∷ 0x01 ∷ [])
     ∷ [])
 
--- The runs end in different states: the hidden script stored 9 in cookie (0,0), and 8 came for cookie (1,1).
+-- The runs end in different states: only the first has the hidden 9 in cookie (0,0) and 8 in cookie (1,1).
 abbrev pub values : Trace → List ℕ
 values r = map (cookieValue (r .state)) (cookieIndex 0 0 ∷ cookieIndex 1 0 ∷ cookieIndex 1 1 ∷ [])
 
@@ -133,11 +137,15 @@ requestsDiffer a b =
     ∷ 0x03 ∷ 0x02 ∷ 0x01
     ∷ [])
 
--- Once what is hidden is struck the lists are equal, and three records are left.
-abbrev pub struckAlike : List ℕ → Bool
-struckAlike p = sameNumbers (remainingNumbers p withHidden) (remainingNumbers p withoutHidden) && eqb (length (remaining httpHostOne p withHidden)) 3
+-- Once what is hidden is struck the lists are equal, and so many records are left.
+abbrev pub struckAlike : List ℕ → ℕ → List Item → List Item → Bool
+struckAlike p count is js = sameNumbers (remainingNumbers p is) (remainingNumbers p js) && eqb (length (remaining httpHostOne p is)) count
 
--- The set sees the same of both: three requests, the second with cookie (1,0).
+-- The set sees the same of both.
+abbrev pub seenAlike : List ℕ → List ℕ → Trace → Trace → Bool
+seenAlike p seen a b = sameNumbers (seenNumbers p a) seen && sameNumbers (seenNumbers p b) seen
+
+-- Three requests, the second with cookie (1,0).
 abbrev pub threeObservations : List ℕ
 threeObservations =
     0x03 ∷ 1 ∷ 1 ∷ 0 ∷ 0
@@ -145,11 +153,67 @@ threeObservations =
     ∷ 0x03 ∷ 2 ∷ 1 ∷ 0 ∷ 0
     ∷ []
 
-abbrev pub seenAlike : List ℕ → Trace → Trace → Bool
-seenAlike p a b = sameNumbers (seenNumbers p a) threeObservations && sameNumbers (seenNumbers p b) threeObservations
-
 unfoldable pub hiddenUnseen : List ℕ → Trace → Trace → Bool
-hiddenUnseen p a b = statesDiffer a b && (requestsDiffer a b && (struckAlike p && seenAlike p a b))
+hiddenUnseen p a b = statesDiffer a b && (requestsDiffer a b && (struckAlike p 3 withHidden withoutHidden && seenAlike p threeObservations a b))
+
+-- ---- pictures, hidden and shown
+
+-- Load 1 on connection 1. Hidden: load 0 on connection 0; its response with script 3, which requests a picture there; and that picture, with 9 for
+-- cookie (0,0). The response on connection 1, with script 4; the picture that it requests brings 7 for cookie (1,0) and, hidden, 8 for cookie
+-- (1,1). Load 1 on connection 1.
+abbrev pub picturesWithHidden : List Item
+picturesWithHidden = items 1184 0xee (
+    (0x03 ∷ 0x01 ∷ 0x01 ∷ [])
+    ∷ (0x03 ∷ 0x00 ∷ 0x00 ∷ [])
+    ∷ (0x0b ∷ 0x00 ∷ 0x00 ∷ 0x03 ∷ [])
+    ∷ (0x47 ∷ 0x00 ∷ 0x00 ∷ 0x01 ∷ 0x00 ∷ 0x00 ∷ 0x00 ∷ 0x09 ∷ [])
+    ∷ (0x0b ∷ 0x01 ∷ 0x01 ∷ 0x04 ∷ [])
+    ∷ (0x47 ∷ 0x01 ∷ 0x01 ∷ 0x03 ∷ 0x00 ∷ 0x00 ∷ 0x00 ∷ 0x07 ∷ 0x00 ∷ 0x00 ∷ 0x00 ∷ 0x08 ∷ [])
+    ∷ (0x03 ∷ 0x01 ∷ 0x01 ∷ [])
+    ∷ [])
+
+-- The same without what is hidden. The value of cookie (1,0) may be another.
+abbrev pub pictureBringing : ℕ → List Item
+pictureBringing v = items 1184 0xee (
+    (0x03 ∷ 0x01 ∷ 0x01 ∷ [])
+    ∷ (0x0b ∷ 0x01 ∷ 0x01 ∷ 0x04 ∷ [])
+    ∷ (0x47 ∷ 0x01 ∷ 0x01 ∷ 0x01 ∷ 0x00 ∷ 0x00 ∷ 0x00 ∷ v ∷ [])
+    ∷ (0x03 ∷ 0x01 ∷ 0x01 ∷ [])
+    ∷ [])
+
+abbrev pub sentWithHiddenPicture : List ℕ
+sentWithHiddenPicture =
+    0x03 ∷ 0x01 ∷ 0x01
+    ∷ 0x03 ∷ 0x00 ∷ 0x00
+    ∷ 0x43 ∷ 0x00 ∷ 0x00
+    ∷ 0x43 ∷ 0x01 ∷ 0x01
+    ∷ 0x07 ∷ 0x01 ∷ 0x01 ∷ 0x01 ∷ 0x00 ∷ 0x00 ∷ 0x00 ∷ 0x07
+    ∷ []
+
+-- The set sees the page, its picture, and the page again with the cookie that came with the picture.
+abbrev pub pictureObservations : List ℕ
+pictureObservations =
+    0x03 ∷ 1 ∷ 1 ∷ 0 ∷ 0
+    ∷ 0x43 ∷ 1 ∷ 1 ∷ 0 ∷ 0
+    ∷ 0x03 ∷ 1 ∷ 1 ∷ 0 ∷ 1 ∷ 0 ∷ 7
+    ∷ []
+
+-- The runs differ in both hidden cookies and in what they send; the set sees the same.
+unfoldable pub hiddenPictureUnseen : List ℕ → Trace → Trace → Bool
+hiddenPictureUnseen p a b =
+    statesDiffer a b
+    && (sameNumbers (sentBytes (a .requests)) sentWithHiddenPicture
+    && (sameNumbers (sentBytes (b .requests)) (
+    0x03 ∷ 0x01 ∷ 0x01
+    ∷ 0x43 ∷ 0x01 ∷ 0x01
+    ∷ 0x07 ∷ 0x01 ∷ 0x01 ∷ 0x01 ∷ 0x00 ∷ 0x00 ∷ 0x00 ∷ 0x07
+    ∷ [])
+    && (struckAlike p 4 picturesWithHidden (pictureBringing 7)
+    && seenAlike p pictureObservations a b)))
+
+-- A page whose response has a script that requests URL 1 on connection 1: as a script's request, or as a picture.
+abbrev pub pageWithScript : ℕ → List Item
+pageWithScript x = items 1184 0xee ((0x03 ∷ 0x01 ∷ 0x01 ∷ []) ∷ (0x0b ∷ 0x01 ∷ 0x01 ∷ x ∷ []) ∷ [])
 
 -- ---- lists that the set tells apart
 
@@ -174,8 +238,23 @@ saysSomething p a b c d =
     && (toldApart p withoutHidden b (bringing 7) c
     && toldApart p (bringing 7) c (bringing 8) d)
 
+-- The same of pictures: the set cannot tell whether a hidden one was requested and came. It tells what a shown one brings, and a picture from a
+-- script's request, by the kind alone.
+unfoldable pub saysSomethingOfPictures : List ℕ → Trace → Trace → Trace → Trace → Trace → Bool
+saysSomethingOfPictures p a b c d e =
+    hiddenPictureUnseen p a b
+    && (toldApart p (pictureBringing 7) b (pictureBringing 8) c
+    && (toldApart p (pageWithScript 2) d (pageWithScript 4) e
+    && (sameNumbers (seenNumbers p d) (0x03 ∷ 1 ∷ 1 ∷ 0 ∷ 0 ∷ 0x0b ∷ 1 ∷ 1 ∷ 0 ∷ 0 ∷ [])
+    && sameNumbers (seenNumbers p e) (0x03 ∷ 1 ∷ 1 ∷ 0 ∷ 0 ∷ 0x43 ∷ 1 ∷ 1 ∷ 0 ∷ 0 ∷ []))))
+
 abbrev pub ran : List Item → Trace
 ran is = run policyTwoHosts scriptsTwoHosts is
 
 abbrev pub SaysSomething : Type 0
 SaysSomething = T (saysSomething policyTwoHosts (ran withHidden) (ran withoutHidden) (ran (bringing 7)) (ran (bringing 8)))
+
+abbrev pub PicturesSaySomething : Type 0
+PicturesSaySomething = T (
+    saysSomethingOfPictures policyTwoHosts
+    (ran picturesWithHidden) (ran (pictureBringing 7)) (ran (pictureBringing 8)) (ran (pageWithScript 2)) (ran (pageWithScript 4)))

@@ -10,7 +10,7 @@ use Rattle.labels.specs.Membership.{allBelow}
 use Rattle.labels.specs.Addresses.{hosts}
 use Rattle.records.specs.declared.Record.{Record}
 use Rattle.records.specs.Bytes.{bit}
-use Rattle.records.specs.Layout.{keyNumbers, documentRequest, scriptRequest, withCookies}
+use Rattle.records.specs.Layout.{keyNumbers, documentRequest, scriptRequest, pictureRequest, withCookies}
 use Rattle.machine.specs.Policy.{hostKeys, connections, cookieIndex, urlHost, isUrl, fits, mayStore, mayCarry}
 
 -- ---- the words
@@ -85,6 +85,9 @@ documentKind = 1
 abbrev pub scriptKind : ℕ
 scriptKind = 2
 
+abbrev pub pictureKind : ℕ
+pictureKind = 3
+
 -- scripts, and so handlers, are 0 to 15
 abbrev pub scriptCount : ℕ
 scriptCount = 16
@@ -93,16 +96,19 @@ scriptCount = 16
 abbrev pub scriptFields : List ℕ → ℕ → ℕ → ℕ → Bool
 scriptFields p kind origin handler = eqb kind scriptKind && (isUrl p origin && ltb handler scriptCount)
 
--- the others have neither
+-- a document and a picture have neither
 abbrev pub bareFields : ℕ → ℕ → ℕ → Bool
-bareFields kind origin handler = eqb kind documentKind && (eqb origin 0 && eqb handler 0)
+bareFields kind origin handler = (eqb kind documentKind || eqb kind pictureKind) && (eqb origin 0 && eqb handler 0)
 
 unfoldable pub kindSound : List ℕ → ℕ → ℕ → ℕ → Bool
 kindSound p kind origin handler = bareFields kind origin handler || scriptFields p kind origin handler
 
 -- the map byte of a kind's request, where no cookies follow
 unfoldable pub plainRequest : ℕ → ℕ
-plainRequest kind = branch (eqb kind scriptKind) scriptRequest documentRequest
+plainRequest kind =
+    branch (eqb kind scriptKind) scriptRequest
+    (branch (eqb kind pictureKind) pictureRequest
+    documentRequest)
 
 -- ---- sound
 
@@ -158,7 +164,7 @@ setConnection n w s = set s (connectionsAt + n) w
 unfoldable pub requestMap : ℕ → ℕ → ℕ
 requestMap kind keys = branch (eqb keys 0) (plainRequest kind) (withCookies (plainRequest kind))
 
--- the request to u on connection n: a document's, or a script's with its handler
+-- the request to u on connection n: a document's, a picture's, or a script's with its handler
 unfoldable pub request : List ℕ → List ℕ → ℕ → ℕ → ℕ → ℕ → Record
 request p s n kind handler u =
     let attached = attaches p s u in
