@@ -10,7 +10,7 @@ use Rattle.machine.proofs.SoundStates.{sound-of, word-fields, script-fields}
 use Rattle.policy.specs.Given.{Url}
 use Rattle.policy.proofs.Rows.{named-url}
 use Rattle.monitor.specs.declared.events.Arrived.{Arrived}
-use Rattle.monitor.specs.declared.events.Arrived.the-variants.{DocumentResponse, ScriptResponse, Redirect}
+use Rattle.monitor.specs.declared.events.Arrived.the-variants.{DocumentResponse, ScriptResponse, PictureResponse, Redirect}
 use Rattle.monitor.specs.Events.{told}
 use Rattle.monitor.specs.Given.{Holds}
 
@@ -50,4 +50,5 @@ held p s n u (ScriptResponse v) formed safe l url e =
     let word = word-fields p n w (sound-of p (λ _. Unit {0}) s safe (λ _ _. tt) .words n l) (search parts) in
     let fields = script-fields p (kindOf w) (originOf w) (handlerOf w) (search parts) (search parts) in
     (named-url p (originOf w) formed (fields .0), ltb→lt (handlerOf w) scriptCount (fields .1))
+held p s n u PictureResponse formed safe l url e = tt
 held p s n u (Redirect t) formed safe l url e = tt

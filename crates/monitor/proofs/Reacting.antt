@@ -50,13 +50,13 @@ pub sent-done : (p s : List ℕ) (n kind origin handler u : ℕ) (bytes : ℕ) (
 unfolding done send writeEach
 sent-done p s n kind origin handler u bytes t out next e f = rw (e, ap (λ (o : Output). o .at) f, ap (λ (o : Output). o .buffer) f)
 
--- and one that moves the connection of a word, once cookies are stored
-pub moved-done : (p s : List ℕ) (n word u : ℕ) {kind origin handler bytes : ℕ} {stored t : List ℕ} (out : List ℕ) {next : List ℕ}
-    → kind ≡ kindOf word → origin ≡ originOf word → handler ≡ handlerOf word → stored ≡ s → t ≡ setConnection n (packed kind origin handler u) stored
-    → output bytes next ≡ writeNext (request p stored n kind handler u) (output 0 out)
+-- and one that moves the connection of a word
+pub moved-done : (p s : List ℕ) (n word u : ℕ) {kind origin handler bytes : ℕ} {t : List ℕ} (out : List ℕ) {next : List ℕ}
+    → kind ≡ kindOf word → origin ≡ originOf word → handler ≡ handlerOf word → t ≡ setConnection n (packed kind origin handler u) s
+    → output bytes next ≡ writeNext (request p s n kind handler u) (output 0 out)
     → fed (record { number = accepted; bytes = bytes; steps = 0 }) t next ≡ done (send p n (kindOf word) (originOf word) (handlerOf word) u s) out
-moved-done p s n word u out ek eo eh es e f =
-    sent-done p s n (kindOf word) (originOf word) (handlerOf word) u _ _ out _ (e ∙ rw (ek, eo, eh, es)) (f ∙ rw (ek, eh, es))
+moved-done p s n word u out ek eo eh e f =
+    sent-done p s n (kindOf word) (originOf word) (handlerOf word) u _ _ out _ (e ∙ rw (ek, eo, eh)) (f ∙ rw (ek, eh))
 
 -- the part of the script table that is lent
 module _ (scripts : List ℕ) (x : ℕ) where
@@ -72,12 +72,12 @@ module _ (scripts : List ℕ) (x : ℕ) where
   pub part-length : length scripts ≡ tableBytes → x < scriptCount → length part ≡ scriptBytes
   part-length e l = ap length part-is ∙ length-take-le scriptBytes (drop (scriptBytes * x) scripts) (simp length-drop (omega arith))
 
--- a script that was run, once cookies are stored and the connection is freed
-pub run-done : (p scripts s : List ℕ) (n page x v : ℕ) (r : Ran) {code stored freed t : List ℕ} (out : List ℕ) {next : List ℕ}
-    → code ≡ scriptAt scripts x → stored ≡ s → freed ≡ setConnection n free stored
+-- a script that was run, once the connection is freed
+pub run-done : (p scripts s : List ℕ) (n page x v : ℕ) (r : Ran) {code freed t : List ℕ} (out : List ℕ) {next : List ℕ}
+    → code ≡ scriptAt scripts x → freed ≡ setConnection n free s
     → ran r t next ≡ finished 0 (runFrom stepLimit (stepAt code) p n page 0 (startingWith v) freed) (output 0 out)
     → fed (record { number = accepted; bytes = r .written; steps = r .steps }) t next ≡ done (runScript p scripts n page x v (setConnection n free s)) out
 unfolding done runScript
-run-done p scripts s n page x v r out ec es ef e =
-    let f = rw (ec, ef, es) at e in
+run-done p scripts s n page x v r out ec ef e =
+    let f = rw (ec, ef) at e in
     rw (ap (λ (z : Finished). z .steps) f, ap (λ (z : Finished). z .state) f, ap (λ (z : Finished). z .output .at) f, ap (λ (z : Finished). z .output .buffer) f, zero-add _)

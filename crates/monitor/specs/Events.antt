@@ -7,12 +7,13 @@ use Rattle.machine.specs.Machine.{Event, Arrival}
 use Rattle.machine.specs.Machine as machine
 use Rattle.session.specs.Delivered.{delivered}
 use Rattle.monitor.specs.declared.events.Arrived.{Arrived}
-use Rattle.monitor.specs.declared.events.Arrived.the-variants.{DocumentResponse, ScriptResponse, Redirect}
+use Rattle.monitor.specs.declared.events.Arrived.the-variants.{DocumentResponse, ScriptResponse, PictureResponse, Redirect}
 use Rattle.monitor.specs.declared.events.Delivery.{Delivery}
 
 abbrev pub told : Arrived → machine.Arrived
 told (DocumentResponse script) = machine.DocumentResponse script
 told (ScriptResponse value) = machine.ScriptResponse value
+told PictureResponse = machine.PictureResponse
 told (Redirect target) = machine.Redirect target
 
 abbrev pub arrival : Delivery → machine.Arrived → Event

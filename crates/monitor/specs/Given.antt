@@ -10,7 +10,7 @@ use Rattle.machine.specs.Scripts.{tableBytes}
 use Rattle.policy.specs.Given.{Url}
 use Rattle.session.specs.Given.{Session}
 use Rattle.monitor.specs.declared.events.Arrived.{Arrived}
-use Rattle.monitor.specs.declared.events.Arrived.the-variants.{DocumentResponse, ScriptResponse, Redirect}
+use Rattle.monitor.specs.declared.events.Arrived.the-variants.{DocumentResponse, ScriptResponse, PictureResponse, Redirect}
 use Rattle.monitor.specs.declared.events.Delivery.{Delivery}
 
 -- what 2 to 4 do not refuse
@@ -29,10 +29,12 @@ pub record Arriving (p s : List ℕ) (from : Delivery) : Type 0 where
 abbrev pub Names : List ℕ → Arrived → Type 0
 Names p (DocumentResponse script) = script < scriptCount
 Names p (ScriptResponse value) = Unit {0}
+Names p PictureResponse = Unit {0}
 Names p (Redirect target) = Url p target
 
 -- the word of the connection that waits for it names the page, and the script that handles it
 abbrev pub Holds : List ℕ → ℕ → Arrived → Type 0
 Holds p word (DocumentResponse script) = Url p (urlOf word)
 Holds p word (ScriptResponse value) = Url p (originOf word) × (handlerOf word < scriptCount)
+Holds p word PictureResponse = Unit {0}
 Holds p word (Redirect target) = Unit {0}

@@ -31,6 +31,7 @@ use policy::words::CONNECTIONS;
 use scripts::SCRIPT_BYTES;
 use session::cookies::store_cookies;
 use session::kinds::DOCUMENT;
+use session::kinds::PICTURE;
 use session::kinds::SCRIPT;
 use session::pending::FREE;
 use session::pending::Pending;
@@ -39,10 +40,11 @@ use session::requests::send;
 use session::words::connection_word;
 use session::words::set_connection;
 
-// What can arrive on a connection: a document, with the script that it runs; a value for a script's request; a redirect to a target.
+// What can arrive on a connection: a document, with the script that it runs; a value for a script's request; a picture; a redirect to a target.
 pub enum Arrived {
     DocumentResponse(usize),
     ScriptResponse(u32),
+    PictureResponse,
     Redirect(usize),
 }
 
@@ -90,12 +92,7 @@ pub fn load(
     if !load_writers(policy, connection, url) {
         return refused(WRITERS_FORBID);
     }
-    let pending = Pending {
-        kind: DOCUMENT,
-        origin: 0,
-        handler: 0,
-        url,
-    };
+    let pending = Pending::bare(DOCUMENT, url);
     Done {
         number: ACCEPTED,
         bytes: send(policy, state, connection, pending, out, 0),
@@ -103,29 +100,24 @@ pub fn load(
     }
 }
 
-// A response that is accepted: its cookies are stored, its connection is freed, then a script runs.
+// A response, once its cookies are stored, after which a script runs: its connection is freed before.
 fn respond(
     policy: &[u32],
     scripts: &[u8],
     state: &mut [u32],
-    from: Delivery,
+    connection: usize,
     page: usize,
     script: usize,
     value: u32,
     out: &mut [u8],
 ) -> Done
-    requires { ⌜ Arriving (now policy) (now state) from × (length (now scripts) ≡ tableBytes)
+    requires { ⌜ Session (now policy) (now state) × (connection < connections) × (length (now scripts) ≡ tableBytes)
         × Url (now policy) page × (script < scriptCount) ⌝ }
     ensures { λ r. ⌜ fed r (now (state .exit)) (now (out .exit))
         ≡ done
-        (runScript (now (policy .entry)) (now (scripts .entry)) (from .connection) page script value
-        (setConnection (from .connection) free (stored (now (policy .entry)) from (now (state .entry)))))
+        (runScript (now (policy .entry)) (now (scripts .entry)) connection page script value (setConnection connection free (now (state .entry))))
         (now (out .entry)) ⌝ }
 {
-    let connection = from.connection;
-    let cookies = from.cookies;
-    let host = url_host(policy, from.url);
-    store_cookies(policy, state, connection, host, from.keys, cookies);
     set_connection(state, connection, FREE);
     let start = SCRIPT_BYTES * script;
     let end = start + SCRIPT_BYTES;
@@ -138,26 +130,21 @@ fn respond(
     }
 }
 
-// A redirect that is accepted: its cookies are stored for the old URL's host, and the connection moves to the target.
+// A redirect, once its cookies are stored: the connection of a word moves to the target.
 fn follow(
     policy: &[u32],
     state: &mut [u32],
-    from: Delivery,
+    connection: usize,
     word: u32,
     target: usize,
     out: &mut [u8],
 ) -> Done
-    requires { ⌜ Arriving (now policy) (now state) from × Url (now policy) target ⌝ }
+    requires { ⌜ Session (now policy) (now state) × (connection < connections) × Url (now policy) target ⌝ }
     ensures { λ r. ⌜ fed r (now (state .exit)) (now (out .exit))
         ≡ done
-        (send (now (policy .entry)) (from .connection) (kindOf word) (originOf word) (handlerOf word) target
-        (stored (now (policy .entry)) from (now (state .entry))))
+        (send (now (policy .entry)) connection (kindOf word) (originOf word) (handlerOf word) target (now (state .entry)))
         (now (out .entry)) ⌝ }
 {
-    let connection = from.connection;
-    let cookies = from.cookies;
-    let host = url_host(policy, from.url);
-    store_cookies(policy, state, connection, host, from.keys, cookies);
     let mut pending = Pending::of(word);
     pending.url = target;
     Done {
@@ -176,6 +163,7 @@ fn carries_names(policy: &[u32], what: Arrived) -> bool
     match what {
         Arrived::DocumentResponse(script) => script < SCRIPTS,
         Arrived::ScriptResponse(_) => true,
+        Arrived::PictureResponse => true,
         Arrived::Redirect(target) => is_url(policy, target),
     }
 }
@@ -187,6 +175,7 @@ fn of_kind(kind: u32, what: Arrived) -> bool
     match what {
         Arrived::DocumentResponse(_) => kind == DOCUMENT,
         Arrived::ScriptResponse(_) => kind == SCRIPT,
+        Arrived::PictureResponse => kind == PICTURE,
         Arrived::Redirect(_) => true,
     }
 }
@@ -199,6 +188,7 @@ fn readers_allow(policy: &[u32], connection: usize, what: Arrived) -> bool
     match what {
         Arrived::DocumentResponse(_) => true,
         Arrived::ScriptResponse(_) => true,
+        Arrived::PictureResponse => true,
         Arrived::Redirect(target) => redirect_readers(policy, connection, target),
     }
 }
@@ -210,49 +200,69 @@ fn writers_allow(policy: &[u32], connection: usize, what: Arrived) -> bool
     match what {
         Arrived::DocumentResponse(_) => true,
         Arrived::ScriptResponse(_) => true,
+        Arrived::PictureResponse => true,
         Arrived::Redirect(target) => redirect_writers(policy, connection, target),
     }
 }
 
-// What is accepted on the connection of a word. The page of a document's script is the URL that the connection holds; the response to a
-// script's request is handled for the page that sent it.
+// What is accepted on the connection of a word, once its cookies are stored. The page of a document's script is the URL that the connection
+// holds; the response to a script's request is handled for the page that sent it; after a picture nothing runs.
 fn receive(
     policy: &[u32],
     scripts: &[u8],
     state: &mut [u32],
-    from: Delivery,
+    connection: usize,
     word: u32,
     what: Arrived,
     out: &mut [u8],
 ) -> Done
-    requires { ⌜ Arriving (now policy) (now state) from × (length (now scripts) ≡ tableBytes)
+    requires { ⌜ Session (now policy) (now state) × (connection < connections) × (length (now scripts) ≡ tableBytes)
         × Names (now policy) what × Holds (now policy) word what ⌝ }
     ensures { λ r. ⌜ fed r (now (state .exit)) (now (out .exit))
         ≡ done
-        (receive (now (policy .entry)) (now (scripts .entry)) (from .connection) word (told what)
-        (stored (now (policy .entry)) from (now (state .entry))))
+        (receive (now (policy .entry)) (now (scripts .entry)) connection word (told what) (now (state .entry)))
         (now (out .entry)) ⌝ }
 {
     let pending = Pending::of(word);
     match what {
         Arrived::DocumentResponse(script) => {
-            respond(policy, scripts, state, from, pending.url, script, 0, out)
+            let page = pending.url;
+            respond(policy, scripts, state, connection, page, script, 0, out)
         }
         Arrived::ScriptResponse(value) => {
             let page = pending.origin;
+            let handler = pending.handler;
             respond(
                 policy,
                 scripts,
                 state,
-                from,
+                connection,
                 page,
-                pending.handler,
+                handler,
                 value,
                 out,
             )
         }
-        Arrived::Redirect(target) => follow(policy, state, from, word, target, out),
+        Arrived::PictureResponse => {
+            set_connection(state, connection, FREE);
+            Done {
+                number: ACCEPTED,
+                bytes: 0,
+                steps: 0,
+            }
+        }
+        Arrived::Redirect(target) => follow(policy, state, connection, word, target, out),
     }
+}
+
+// Stores the cookies of a delivery, for the host of its URL.
+fn store(policy: &[u32], state: &mut [u32], from: Delivery)
+    requires { ⌜ Arriving (now policy) (now state) from ⌝ }
+    ensures { λ _. ⌜ now (state .exit) ≡ stored (now (policy .entry)) from (now (state .entry)) ⌝ }
+{
+    let cookies = from.cookies;
+    let host = url_host(policy, from.url);
+    store_cookies(policy, state, from.connection, host, from.keys, cookies);
 }
 
 // Cookies are stored only once all is judged.
@@ -285,5 +295,6 @@ pub fn arrive(
     if !writers_allow(policy, connection, what) {
         return refused(WRITERS_FORBID);
     }
-    receive(policy, scripts, state, from, word, what, out)
+    store(policy, state, from);
+    receive(policy, scripts, state, connection, word, what, out)
 }

@@ -21,6 +21,7 @@ use records::LONGEST_REQUEST;
 use records::Record;
 use records::map_bytes::DOCUMENT_RESPONSE;
 use records::map_bytes::LOAD;
+use records::map_bytes::PICTURE_RESPONSE;
 use records::map_bytes::SCRIPT_RESPONSE;
 use records::map_bytes::WITH_COOKIES;
 use scripts::STEP_LIMIT;
@@ -47,6 +48,9 @@ fn arrived_of(fields: Record) -> Arrived
     }
     if plain == SCRIPT_RESPONSE {
         return Arrived::ScriptResponse(fields.value);
+    }
+    if plain == PICTURE_RESPONSE {
+        return Arrived::PictureResponse;
     }
     Arrived::Redirect(fields.target as usize)
 }

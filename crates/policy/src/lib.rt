@@ -113,7 +113,7 @@ pub fn may_write(policy: &[u32], connection: usize, host: usize, key: usize) -> 
         & connection_writers(policy, connection).within(cookie_writers(policy, host, key))
 }
 
-// Step 5: a script of a response on `connection` requests a URL on the connection `via`.
+// Steps 5 and 7: a script of a response on `connection` requests a URL on the connection `via`.
 pub fn may_send(policy: &[u32], connection: usize, url: usize, via: usize) -> bool
     requires { ⌜ WellFormed (now policy) × (connection < connections) × (via < connections) × Url (now policy) url ⌝ }
     ensures { λ r. ⌜ r ≡ maySend (now (policy .entry)) connection url via ⌝ }

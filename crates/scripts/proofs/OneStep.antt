@@ -5,11 +5,11 @@ use borrow.Author.Tests.{ltb-true}
 use Rattle.prelude.specs.Choice.{branch}
 use Rattle.prelude.proofs.Choices.{chosen, left-out}
 use Rattle.machine.specs.Policy.{hostKeys, cookieIndex, urlHost, isUrl, isConnection, mayRead, mayWrite, maySend}
-use Rattle.machine.specs.Session.{cookieValue, present, packed, setCookie, setConnection, request, send}
-use Rattle.machine.specs.Scripts.{Progress, scriptSteps, registerCount, register, isRegister, isKey, isScript, end, readCookie, writeCookie, goesOn, goesOnAfter, ended, requested, step, stepOf, stepAt}
+use Rattle.machine.specs.Session.{pictureKind, cookieValue, present, packed, setCookie, setConnection, request, send}
+use Rattle.machine.specs.Scripts.{Progress, scriptSteps, registerCount, register, isRegister, isKey, isScript, end, readCookie, writeCookie, sendPicture, goesOn, goesOnAfter, ended, requested, step, stepOf, stepAt}
 use Rattle.session.specs.Output.{Output, output, writeNext, writeEach}
 use Rattle.scripts.specs.declared.position.Position.{Position}
-use Rattle.scripts.specs.Reached.{reached, after}
+use Rattle.scripts.specs.Reached.{Reached, reached, after}
 
 pub moved : {i j : ℕ} (rs s : List ℕ) → i ≡ j → goesOn i rs s ≡ goesOn j rs s
 moved rs s e = rw e
@@ -34,9 +34,9 @@ pub fetched : (code : List ℕ) (i op a b c k : ℕ) → op ≡ getD code (4 * i
 unfolding stepAt
 fetched code i op a b c k eo ea eb ec e = rw (← eo, ← ea, ← eb, ← ec, e)
 
-pub unknown : (op a b c : ℕ) → (op ≡ 1 → ⊥) → (op ≡ 2 → ⊥) → (op ≡ 3 → ⊥) → (op ≡ 4 → ⊥) → (op ≡ 5 → ⊥) → (op ≡ 6 → ⊥) → stepOf op a b c ≡ end
+pub unknown : (op a b c : ℕ) → (op ≡ 1 → ⊥) → (op ≡ 2 → ⊥) → (op ≡ 3 → ⊥) → (op ≡ 4 → ⊥) → (op ≡ 5 → ⊥) → (op ≡ 6 → ⊥) → (op ≡ 7 → ⊥) → stepOf op a b c ≡ end
 unfolding stepOf branch
-unknown op a b c n1 n2 n3 n4 n5 n6 = rw (ne-eqb op 1 n1, ne-eqb op 2 n2, ne-eqb op 3 n3, ne-eqb op 4 n4, ne-eqb op 5 n5, ne-eqb op 6 n6)
+unknown op a b c n1 n2 n3 n4 n5 n6 n7 = rw (ne-eqb op 1 n1, ne-eqb op 2 n2, ne-eqb op 3 n3, ne-eqb op 4 n4, ne-eqb op 5 n5, ne-eqb op 6 n6, ne-eqb op 7 n7)
 
 -- what a test that passed tells of the registers that it names
 pub named : (a : ℕ) (b : Bool) → isRegister a && b ≡ true → (a < registerCount) × (b ≡ true)
@@ -138,3 +138,9 @@ module _ (p : List ℕ) (n i : ℕ) (rs s : List ℕ) (kind origin h u m : ℕ) 
       let allowed : goesOnAfter (suc i) rs (send p m kind origin h u s) ≡ requested p n kind origin h u m i rs s =
       chosen true _ _ _ (rw (tu, lt-ltb m 32 lm, lt-ltb h 16 lh, tm)) refl refl in
       rw (← allowed, e, add-zero (suc i), et, eo)
+
+-- step 7 requests what has the picture's kind, and neither origin nor handler
+pub pictured : (p : List ℕ) (n page i : ℕ) (rs s : List ℕ) (u m : ℕ) (o : Output) {x : Reached} {kind origin h url : ℕ} → x ≡ after (requested p n kind origin h url m i rs s) o
+    → kind ≡ pictureKind → origin ≡ 0 → h ≡ 0 → url ≡ u → x ≡ after (step p n page (sendPicture u m) i rs s) o
+unfolding step
+pictured p n page i rs s u m o e ek eo eh eu = e ∙ rw (ek, eo, eh, eu)

@@ -24,6 +24,7 @@ use policy::words::CONNECTIONS;
 use policy::words::HOST_KEYS;
 use session::cookies::is_present;
 use session::cookies::set_cookie;
+use session::kinds::PICTURE;
 use session::kinds::SCRIPT;
 use session::pending::Pending;
 use session::pending::SCRIPTS;
@@ -159,7 +160,7 @@ fn write_cookie(
     position.after(0)
 }
 
-// A request on the connection `via`, and what is then pending there.
+// Steps 5 and 7: a request on the connection `via`, and what is then pending there.
 fn send_request(
     policy: &[u32],
     state: &mut [u32],
@@ -242,6 +243,10 @@ pub fn step(
             send_request(policy, state, connection, position, b, pending, out)
         }
         6 => skip_if_zero(registers, position, a, b),
+        7 => {
+            let pending = Pending::bare(PICTURE, a);
+            send_request(policy, state, connection, position, b, pending, out)
+        }
         _ => position.ended(),
     }
 }

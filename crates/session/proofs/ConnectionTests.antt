@@ -1,13 +1,13 @@
 -- The word of a connection test by test: the shapes as ranges of words, and the tests of a word that is not free, in the code's order.
-use Rattle.prelude.proofs.Kit.{ℕ, _<_, _+_, _*_, _%_, _/_, arith, true, _&&_, Bool, false, _||_, and-assoc, and-true, List, _≡_, ne-eqb, lt-ltb, eq-eqb, T, eqb}
+use Rattle.prelude.proofs.Kit.{ℕ, _<_, _+_, _*_, _%_, _/_, arith, true, _&&_, Bool, false, _||_, and-assoc, and-true, List, _≡_, sym, _∙_, ap, ne-eqb, lt-ltb, eq-eqb, T, eqb}
 use Rattle.prelude.proofs.Kit.{ltb, eqb→eq, ltb→lt, lt→ltb, and-i}
-use mathlib.Core.Bool.{and-false}
+use mathlib.Core.Bool.{and-false, and-or-distrib-right}
 use lib.Dec.{leb, leb→le, le→leb}
 use Rattle.prelude.proofs.Choices.{parts}
 use Rattle.labels.proofs.Below.{same}
 use Rattle.machine.specs.Policy.{urlRows, isUrl, fits}
-use Rattle.machine.specs.Session.{free, packed, documentKind, scriptKind, scriptCount, kindOf, originOf, handlerOf, urlOf, kindSound, urlSound, connectionSound}
-use Rattle.session.specs.Kinds.{bareShape, scriptShape}
+use Rattle.machine.specs.Session.{free, packed, documentKind, scriptKind, pictureKind, scriptCount, kindOf, originOf, handlerOf, urlOf, bareFields, kindSound, urlSound, connectionSound}
+use Rattle.session.specs.Kinds.{bareShape, bareWord, scriptShape}
 
 -- ---- shapes
 
@@ -16,10 +16,10 @@ packed-fields : (w : ℕ) → w ≡ packed (kindOf w) (originOf w) (handlerOf w)
 unfolding packed kindOf originOf handlerOf urlOf
 packed-fields w = omega arith
 
-pub bare-range : (k w : ℕ) → leb (k * 0x100_0000) w && ltb w (k * 0x100_0000 + 64) ≡ bareShape k w
-unfolding bareShape packed kindOf originOf handlerOf urlOf
+pub bare-range : (k w : ℕ) → leb (k * 0x100_0000) w && ltb w (k * 0x100_0000 + 64) ≡ bareWord k w
+unfolding bareWord packed kindOf originOf handlerOf urlOf
 bare-range k w =
-    same (leb (k * 0x100_0000) w && ltb w (k * 0x100_0000 + 64)) (bareShape k w)
+    same (leb (k * 0x100_0000) w && ltb w (k * 0x100_0000 + 64)) (bareWord k w)
     (λ t. let low = leb→le (k * 0x100_0000) w (search parts) in
     let high = ltb→lt w (k * 0x100_0000 + 64) (search parts) in
     rw (eq-eqb (kindOf w) k (omega arith), eq-eqb (originOf w) 0 (omega arith), eq-eqb (handlerOf w) 0 (omega arith), lt-ltb (urlOf w) urlRows (omega arith)) tt)
@@ -28,6 +28,17 @@ bare-range k w =
     let handler = eqb→eq (handlerOf w) 0 (search parts) in
     let url = ltb→lt (urlOf w) urlRows (search parts) in
     and-i (leb (k * 0x100_0000) w) (ltb w (k * 0x100_0000 + 64)) (le→leb (k * 0x100_0000) w (omega arith)) (lt→ltb w (k * 0x100_0000 + 64) (omega (arith, packed-fields w))))
+
+-- the words of a document and of a picture differ in the kind alone
+pub either-bare : (w : ℕ) → bareWord documentKind w || bareWord pictureKind w ≡ bareShape w
+unfolding bareWord bareShape
+either-bare w =
+    let d = eqb (kindOf w) documentKind in
+    let q = eqb (kindOf w) pictureKind in
+    let o = eqb (originOf w) 0 in
+    let h = eqb (handlerOf w) 0 in
+    let u = ltb (urlOf w) urlRows in
+    sym (and-or-distrib-right d q (o && (h && u))) ∙ ap (λ (b : Bool). (d || q) && b) (sym (and-assoc o h u)) ∙ sym (and-assoc (d || q) (o && h) u)
 
 script-range : (w : ℕ) → leb 0x200_0000 w && ltb w 0x240_0000 ≡ eqb (kindOf w) scriptKind && ltb (originOf w) urlRows
 unfolding packed kindOf originOf handlerOf urlOf
@@ -59,12 +70,11 @@ unfolding isUrl
 url-below p u t = ltb→lt u urlRows (search parts)
 
 -- the URL is tested first, and once, and a script's origin last: u and l are the two tests of the URL, and x that of the origin
-in-turn : (a b c d e f x l u : Bool)
-    → (a && (b && c) || d && ((e && x) && f)) && (l && u) ≡ u && (a && (b && (c && l)) || (d && (e && (f && l))) && x)
-in-turn a b c d e f x l false = simp and-false
-in-turn a b c d e f x false true = simp and-false
-in-turn a b c d e f false true true = simp (and-true, and-false)
-in-turn a b c d e f true true true = simp and-true
+in-turn : (b d e f x l u : Bool) → (b || d && ((e && x) && f)) && (l && u) ≡ u && (b && l || (d && (e && (f && l))) && x)
+in-turn b d e f x l false = simp and-false
+in-turn b d e f x false true = simp and-false
+in-turn b d e f false true true = simp (and-true, and-false)
+in-turn b d e f true true true = simp and-true
 
 pub free-sound : (p : List ℕ) (n w : ℕ) → w ≡ free → true ≡ connectionSound p n w
 unfolding connectionSound
@@ -80,11 +90,11 @@ module _ (p : List ℕ) (n w : ℕ) where
   origin-low = low-bits (isUrl p) (url-below p) (w / 0x1_0000)
 
   module _ (ne : w ≡ free → ⊥) where
-    open-tests : connectionSound p n w ≡ urlSound p n (w % 64) && (bareShape documentKind w || (scriptShape w && isUrl p (w / 0x1_0000 % 64)))
+    open-tests : connectionSound p n w ≡ urlSound p n (w % 64) && (bareShape w || (scriptShape w && isUrl p (w / 0x1_0000 % 64)))
     unfolding connectionSound kindSound bareShape scriptShape
     open-tests =
         rw (ne-eqb w free ne, url-low, origin-low)
-        (in-turn (eqb (kindOf w) documentKind) (eqb (originOf w) 0) (eqb (handlerOf w) 0) (eqb (kindOf w) scriptKind) (ltb (originOf w) urlRows) (ltb (handlerOf w) scriptCount) (isUrl p (w / 0x1_0000 % 64)) (ltb (urlOf w) urlRows) (urlSound p n (w % 64)))
+        (in-turn (bareFields (kindOf w) (originOf w) (handlerOf w)) (eqb (kindOf w) scriptKind) (ltb (originOf w) urlRows) (ltb (handlerOf w) scriptCount) (isUrl p (w / 0x1_0000 % 64)) (ltb (urlOf w) urlRows) (urlSound p n (w % 64)))
 
     pub no-url : isUrl p (w % 64) ≡ false → false ≡ connectionSound p n w
     unfolding urlSound
@@ -96,14 +106,14 @@ module _ (p : List ℕ) (n w : ℕ) where
       misfit f = rw (open-tests, e, f)
 
       module _ (f : fits p n (w % 64) ≡ true) where
-        pub document : bareShape documentKind w ≡ true → true ≡ connectionSound p n w
+        pub bare : bareShape w ≡ true → true ≡ connectionSound p n w
         unfolding urlSound
-        document d = rw (open-tests, e, f, d)
+        bare d = rw (open-tests, e, f, d)
 
-        pub neither : bareShape documentKind w ≡ false → scriptShape w ≡ false → false ≡ connectionSound p n w
+        pub neither : bareShape w ≡ false → scriptShape w ≡ false → false ≡ connectionSound p n w
         unfolding urlSound
         neither d s = rw (open-tests, e, f, d, s)
 
-        pub script : bareShape documentKind w ≡ false → scriptShape w ≡ true → isUrl p (w / 0x1_0000 % 64) ≡ connectionSound p n w
+        pub script : bareShape w ≡ false → scriptShape w ≡ true → isUrl p (w / 0x1_0000 % 64) ≡ connectionSound p n w
         unfolding urlSound
         script d s = rw (open-tests, e, f, d, s)

@@ -3,11 +3,15 @@ use Prim.Native.Nat.{ℕ}
 use mathlib.Core.Bool.{Bool, _&&_}
 use lib.Dec.{ltb, eqb}
 use Rattle.machine.specs.Policy.{urlRows}
-use Rattle.machine.specs.Session.{scriptKind, scriptCount, kindOf, originOf, handlerOf, urlOf}
+use Rattle.machine.specs.Session.{scriptKind, scriptCount, bareFields, kindOf, originOf, handlerOf, urlOf}
 
--- of a kind that has neither origin nor handler
-unfoldable pub bareShape : ℕ → ℕ → Bool
-bareShape kind w =
+-- of a document or a picture
+unfoldable pub bareShape : ℕ → Bool
+bareShape w = bareFields (kindOf w) (originOf w) (handlerOf w) && ltb (urlOf w) urlRows
+
+-- of one of the two
+unfoldable pub bareWord : ℕ → ℕ → Bool
+bareWord kind w =
     eqb (kindOf w) kind
     && (eqb (originOf w) 0
     && (eqb (handlerOf w) 0

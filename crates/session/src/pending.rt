@@ -18,6 +18,18 @@ pub struct Pending {
 }
 
 impl Pending {
+    // Of a kind that has neither origin nor handler.
+    pub fn bare(kind: u32, url: usize) -> Pending
+        ensures { λ r. ⌜ (r .kind ≡ kind) × (r .origin ≡ 0) × (r .handler ≡ 0) × (r .url ≡ url) ⌝ }
+    {
+        Pending {
+            kind,
+            origin: 0,
+            handler: 0,
+            url,
+        }
+    }
+
     pub fn of(word: u32) -> Pending
         ensures { λ r. ⌜ (r .kind ≡ kindOf word) × (r .origin ≡ originOf word) × (r .handler ≡ handlerOf word) × (r .url ≡ urlOf word)
             × (r .kind < 256) × (r .origin < 256) × (r .handler < 256) × (r .url < 256) ⌝ }

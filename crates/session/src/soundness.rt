@@ -12,7 +12,6 @@ ghost use Rattle.policy.specs.Given.{WellFormed};
 ghost use Rattle.session.specs.Given.{Session};
 ghost use Rattle.session.specs.Strays.{noneLeft};
 use super::cookies::has;
-use super::kinds::DOCUMENT;
 use super::kinds::is_bare;
 use super::kinds::is_script;
 use super::pending::FREE;
@@ -106,7 +105,7 @@ fn connection_sound(policy: &[u32], connection: usize, word: u32) -> bool
     if !fits(policy, connection, url) {
         return false;
     }
-    if is_bare(DOCUMENT, word) {
+    if is_bare(word) {
         return true;
     }
     if !is_script(word) {

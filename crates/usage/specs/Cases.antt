@@ -7,7 +7,7 @@ use lib.ListN.{replicate}
 use Rattle.prelude.specs.Choice.{every}
 use Rattle.records.specs.Layout.{sum}
 use Rattle.machine.specs.Cases.{sameNumbers}
-use Rattle.machine.specs.SecrecyExamples.{sentWithHidden}
+use Rattle.machine.specs.SecrecyExamples.{sentWithHidden, sentWithHiddenPicture}
 use Rattle.usage.specs.Tally.{listBad, tallied}
 use Rattle.usage.specs.Lines.{Line, lines}
 
@@ -45,20 +45,34 @@ tallyCases =
     ∷ counted (0x07 ∷ 0x00 ∷ 0x00 ∷ 0x07 ∷ replicate 12 0xff) (0 ∷ 1 ∷ 3 ∷ []) (1 ∷ 3 ∷ [])
     -- what a session sent (the first list of SecrecyExamples): URLs in rising order, each with all of its requests
     ∷ counted sentWithHidden (0 ∷ 2 ∷ 1 ∷ 1 ∷ 2 ∷ 1 ∷ 2 ∷ 1 ∷ 1 ∷ []) (5 ∷ 3 ∷ [])
+    -- a document's, a script's and a picture's requests to one URL, and a picture's to another; what a session with pictures sent
+    ∷ counted (
+    0x03 ∷ 0x05 ∷ 0x02
+    ∷ 0x0f ∷ 0x05 ∷ 0x02 ∷ 0x01 ∷ 0x00 ∷ 0x00 ∷ 0x00 ∷ 0x09 ∷ 0x0f
+    ∷ 0x43 ∷ 0x05 ∷ 0x02
+    ∷ 0x47 ∷ 0x03 ∷ 0x02 ∷ 0x81 ∷ 0x00 ∷ 0x00 ∷ 0x00 ∷ 0x09 ∷ 0x00 ∷ 0x00 ∷ 0x00 ∷ 0x08
+    ∷ []) (3 ∷ 1 ∷ 2 ∷ 5 ∷ 3 ∷ 1 ∷ []) (4 ∷ 3 ∷ [])
+    ∷ counted sentWithHiddenPicture (0 ∷ 2 ∷ 0 ∷ 1 ∷ 3 ∷ 1 ∷ []) (5 ∷ 1 ∷ [])
     -- the last URL, connection and handler; all eight keys
     ∷ counted (0x0b ∷ 0x3f ∷ 0x1f ∷ 0x0f ∷ []) (63 ∷ 1 ∷ 0 ∷ []) (1 ∷ 0 ∷ [])
     ∷ counted (0x0f ∷ 0x3f ∷ 0x1f ∷ 0xff ∷ (replicate 32 0x00 ++ (0x0f ∷ []))) (63 ∷ 1 ∷ 8 ∷ []) (1 ∷ 8 ∷ [])
+    ∷ counted (0x47 ∷ 0x3f ∷ 0x1f ∷ 0xff ∷ replicate 32 0x00) (63 ∷ 1 ∷ 8 ∷ []) (1 ∷ 8 ∷ [])
     -- out of range: URL 64, connection 32, handler 16; also where all others are in range
     ∷ bad (0x03 ∷ 0x40 ∷ 0x00 ∷ [])
     ∷ bad (0x03 ∷ 0x00 ∷ 0x20 ∷ [])
     ∷ bad (0x0b ∷ 0x00 ∷ 0x00 ∷ 0x10 ∷ [])
+    ∷ bad (0x43 ∷ 0x40 ∷ 0x00 ∷ [])
+    ∷ bad (0x43 ∷ 0x00 ∷ 0x20 ∷ [])
     ∷ bad (0x03 ∷ 0x00 ∷ 0x00 ∷ 0x03 ∷ 0x40 ∷ 0x00 ∷ 0x03 ∷ 0x00 ∷ 0x00 ∷ [])
     -- not wholly requests: cut in the front, before the key map, in the values, before the handler; a byte too many
     ∷ bad (0x03 ∷ 0x00 ∷ [])
+    ∷ bad (0x43 ∷ 0x00 ∷ [])
     ∷ bad (0x07 ∷ 0x00 ∷ 0x00 ∷ [])
     ∷ bad (0x07 ∷ 0x00 ∷ 0x00 ∷ 0x01 ∷ 0x00 ∷ 0x00 ∷ 0x00 ∷ [])
     ∷ bad (0x0b ∷ 0x00 ∷ 0x00 ∷ [])
     ∷ bad (0x03 ∷ 0x00 ∷ 0x00 ∷ 0x03 ∷ [])
+    -- a picture's request has no handler, so that what follows it is a record of its own
+    ∷ bad (0x43 ∷ 0x00 ∷ 0x00 ∷ 0x0f ∷ [])
     -- a key map of zero; the map of an input; no map
     ∷ bad (0x07 ∷ 0x00 ∷ 0x00 ∷ 0x00 ∷ [])
     ∷ bad (0x13 ∷ 0x00 ∷ 0x00 ∷ 0x00 ∷ 0x00 ∷ 0x00 ∷ 0x07 ∷ [])

@@ -1,10 +1,10 @@
 -- `events::arrive` meets its contract: each refusal where its test is the first that fails, and else what `receive` does.
-use Rattle.prelude.proofs.Kit.{ℕ, _&&_, not, _≡_, sym, _∙_, ap, subst, needs, not-false, not-true, now, take}
+use Rattle.prelude.proofs.Kit.{ℕ, _&&_, not, List, _≡_, sym, _∙_, ap, ap₂, subst, needs, not-false, not-true, now, take}
 use Rattle.prelude.proofs.Refusals.{NoneOf}
 use Rattle.machine.specs.Policy.{isUrl, isConnection}
 use Rattle.machine.specs.Machine.{Event, carriesNames, named, awaited, readersAllow, writersAllow, eventRefusals, receive, perform}
 use Rattle.monitor.specs.Answers.{done}
-use Rattle.monitor.specs.Events.{told, arrival, stored}
+use Rattle.monitor.specs.Events.{told, arrival}
 use Rattle.monitor.specs.Given.{Arriving, Names, Holds}
 use Rattle.monitor.proofs.Awaiting.{two-fail, third-fails, three-pass, awaited-is, held}
 use Rattle.monitor.proofs.Reacting.{refused-by, performed}
@@ -128,23 +128,34 @@ returns-5 c =
     refused-by (now (a .policy)) (now (a .scripts)) (now (a .state)) (now (a .out)) (event f) 3 (c .refused5 .result) (readers-passed (m .before))
     (ap not (sym (m .writers-allow .ensures) ∙ not-true (m .writers-allow .result) (c .before .if5 .taken))) tt (c .refused5 .ensures)
 
+-- the last test, once cookies are stored
+abbrev judged : tie.After-store → tie.Else5
+judged m = m .before .before
+
+store-requires : tie.Need-store-requires
+store-requires c κs = arriving (second (third (fourth (c .before .before))))
+
 receive-requires : tie.Need-receive-requires
 unfolding awaited
 receive-requires c κs =
-    let o = third (fourth (c .before .before .before)) in
+    let stores = c .before .before .before .before in
+    let last = judged stores in
+    let o = third (fourth (last .before)) in
     let m = second o in
     let a = start (first m) .args in
     let lent = start (first m) .pre in
-    let waits = sym (test-is o) ∙ not-false _ (fourth (c .before .before .before) .before .if3 .left) in
+    let waits = sym (test-is o) ∙ not-false _ (fourth (last .before) .before .if3 .left) in
     let given = arriving m in
+    let session = given .session in
     let holds = held (now (a .policy)) (now (a .state)) (a .from .connection) (a .from .url) (a .what) (lent .session .policy .formed) (lent .safe) (given .connection) (given .url) waits in
-    (given, lent .table, names m, subst (λ (w : ℕ). Holds (now (a .policy)) w (a .what)) (sym (word o .connection-word .ensures)) holds)
+    (record { policy = session .policy; whole = stores .store .kept .1 .0 ∙ session .whole }, given .connection, lent .table, names m, subst (λ (w : ℕ). Holds (now (a .policy)) w (a .what)) (sym (word o .connection-word .ensures)) holds)
 
 returns-6 : tie.Need-returns-6
 unfolding writersAllow perform
 returns-6 c =
     let call = c .before .before .before .before in
-    let last = call .before .before .before in
+    let stores = call .before .before .before .before .before in
+    let last = judged stores in
     let m = last .before in
     let o = third (fourth m) in
     let f = first (second o) in
@@ -153,8 +164,8 @@ returns-6 c =
     performed (now (a .policy)) (now (a .scripts)) (now (a .state)) (now (a .out)) (event f) _
     (name, (wait, (read, (ap not (sym (m .writers-allow .ensures) ∙ not-false (m .writers-allow .result) (last .if5 .left)), tt))))
     (call .receive .ensures
-    ∙ ap (λ (w : ℕ). done (receive (now (a .policy)) (now (a .scripts)) (a .from .connection) w (told (a .what)) (stored (now (a .policy)) (a .from) (now (a .state)))) (now (a .out))) (word o .connection-word .ensures))
+    ∙ ap₂ (λ (w : ℕ) (s : List ℕ). done (receive (now (a .policy)) (now (a .scripts)) (a .from .connection) w (told (a .what)) s) (now (a .out))) (word o .connection-word .ensures) (stores .store .ensures))
 
 pub arrive-spec : {M : Type 1} → statement M
 arrive-spec =
-    tie.close (tie.spec (λ c κs. search needs) (λ c κs. search needs) returns (λ c κs. search needs) (λ c κs. search needs) returns-2 connection-word-requires (λ c κs. search needs) (λ c κs. search needs) (λ c κs. search needs) (λ c κs. search needs) (λ c. search needs) returns-3 readers-allow-requires (λ c κs. search needs) (λ c. search needs) returns-4 writers-allow-requires (λ c κs. search needs) (λ c. search needs) returns-5 receive-requires (λ c. search needs) (λ c. search needs) returns-6)
+    tie.close (tie.spec (λ c κs. search needs) (λ c κs. search needs) returns (λ c κs. search needs) (λ c κs. search needs) returns-2 connection-word-requires (λ c κs. search needs) (λ c κs. search needs) (λ c κs. search needs) (λ c κs. search needs) (λ c. search needs) returns-3 readers-allow-requires (λ c κs. search needs) (λ c. search needs) returns-4 writers-allow-requires (λ c κs. search needs) (λ c. search needs) returns-5 store-requires receive-requires (λ c. search needs) (λ c. search needs) returns-6)

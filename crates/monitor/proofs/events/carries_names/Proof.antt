@@ -11,7 +11,10 @@ returns-2 : tie.Need-returns-2
 returns-2 c = rw (c .enum-told .given .1) (refl, λ _. tt)
 
 returns-3 : tie.Need-returns-3
-returns-3 c = rw (c .before .before .what2 .given .1) (c .is-url .ensures)
+returns-3 c = rw (c .enum-told2 .given .1) (refl, λ _. tt)
+
+returns-4 : tie.Need-returns-4
+returns-4 c = rw (c .before .before .what2 .given .1) (c .is-url .ensures)
 
 pub carries-names-spec : {M : Type 1} → statement M
-carries-names-spec = tie.close (tie.spec (λ c. search needs) (λ c. search needs) (λ c. search needs) (λ c κs. search needs) returns returns-2 returns-3)
+carries-names-spec = tie.close (tie.spec (λ c. search needs) (λ c. search needs) (λ c. search needs) (λ c. search needs) (λ c κs. search needs) returns returns-2 returns-3 returns-4)

@@ -1,7 +1,9 @@
 -- `events::load` meets its contract: each refusal where its test is the first that fails, and else the request that opens the connection.
-use Rattle.prelude.proofs.Kit.{zero-le, true, not, _≡_, sym, _∙_, refl, ap, needs, not-false, not-true, now, lit<, take}
+use Rattle.prelude.proofs.Kit.{arith, zero-le, true, not, _≡_, sym, _∙_, refl, ap, subst, needs, not-false, not-true, now, take}
 use Rattle.prelude.proofs.Refusals.{NoneOf}
+use Rattle.machine.specs.Session.{documentKind}
 use Rattle.machine.specs.Machine.{Event, Load, named, awaited, readersAllow, writersAllow, eventRefusals, perform}
+use Rattle.policy.specs.Given.{Url}
 use Rattle.monitor.proofs.Reacting.{refused-by, performed, sent-done}
 use Rattle.monitor.proofs.events.load.Statement.{statement}
 use Rattle.monitor.proofs.events.load.Tie as tie
@@ -69,23 +71,28 @@ returns-3 c scripts =
 
 send-requires : tie.Need-send-requires
 send-requires c κs =
-    let m = second (c .before .before .before) in
+    let made = c .before .before in
+    let m = second (made .before .before) in
+    let (kind, origin, handler, url) = made .bare .ensures in
     let given = first m .is-named .ensures .1 (is-named (m .before)) in
-    (start (first m) .pre, given .0, given .1, lit< tt, lit< tt, lit< tt, zero-le)
+    (start (first m) .pre, subst (Url (now (start (first m) .args .policy))) (sym url) (given .0), given .1, omega (arith, kind), omega (arith, origin), omega (arith, handler), zero-le)
 
 returns-4 : tie.Need-returns-4
 unfolding writersAllow perform
 returns-4 c scripts =
     let call = c .before .before .before .before in
-    let third = call .before .before .before in
+    let made = call .before .before .before in
+    let third = made .before in
     let m = third .before in
     let f = first (second m) in
     let a = start f .args in
     let (names, (waits, (readers, _))) = readers-passed (m .before) in
+    let (kind, origin, handler, url) = made .bare .ensures in
     performed (now (a .policy)) scripts (now (a .state)) (now (a .out)) (event f) _
     (names, (waits, (readers, (ap not (sym (m .load-writers .ensures) ∙ not-false (m .load-writers .result) (third .if3 .left)), tt))))
-    (sent-done (now (a .policy)) (now (a .state)) (a .connection) 1 0 0 (a .url) _ _ (now (a .out)) _ (call .send .ensures .0) (call .send .ensures .1))
+    (sent-done (now (a .policy)) (now (a .state)) (a .connection) documentKind 0 0 (a .url) _ _ (now (a .out)) _
+    (rw (kind, origin, handler, url) at (call .send .ensures .0)) (rw (kind, handler, url) at (call .send .ensures .1)))
 
 pub load-spec : {M : Type 1} → statement M
 load-spec =
-    tie.close (tie.spec (λ c κs. search needs) (λ c κs. search needs) returns load-readers-requires (λ c κs. search needs) returns-2 load-writers-requires (λ c κs. search needs) returns-3 send-requires (λ c. search needs) (λ c. search needs) returns-4)
+    tie.close (tie.spec (λ c κs. search needs) (λ c κs. search needs) returns load-readers-requires (λ c κs. search needs) returns-2 load-writers-requires (λ c κs. search needs) returns-3 (λ c κs. search needs) send-requires (λ c. search needs) (λ c. search needs) returns-4)

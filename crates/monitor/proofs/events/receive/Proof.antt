@@ -1,12 +1,14 @@
 -- `events::receive` meets its contract: what each that can arrive does.
 use Rattle.prelude.proofs.Kit.{ℕ, List, _≡_, sym, subst, needs, now}
+use Rattle.prelude.specs.Refusals.{accepted}
 use Rattle.machine.specs.Session.{free, kindOf, originOf, handlerOf, urlOf, setConnection, send}
-use Rattle.machine.specs.Scripts.{runScript}
+use Rattle.machine.specs.Scripts.{stopped, runScript}
 use Rattle.machine.specs.Machine.{receive, Fed}
 use Rattle.policy.specs.Given.{Url}
 use Rattle.monitor.specs.declared.events.Arrived.{Arrived}
-use Rattle.monitor.specs.declared.events.Arrived.the-variants.{DocumentResponse, ScriptResponse, Redirect}
-use Rattle.monitor.specs.Answers.{done}
+use Rattle.monitor.specs.declared.events.Arrived.the-variants.{DocumentResponse, ScriptResponse, PictureResponse, Redirect}
+use Rattle.session.specs.Output.{writeEach}
+use Rattle.monitor.specs.Answers.{fed, done}
 use Rattle.monitor.specs.Events.{told}
 use Rattle.monitor.specs.Given.{Names, Holds}
 use Rattle.monitor.proofs.events.receive.Statement.{statement}
@@ -27,6 +29,11 @@ module _ (p scripts s : List ℕ) (n word : ℕ) (out : List ℕ) {what : Arrive
   unfolding receive
   redirect e h = rw e h
 
+picture : (p scripts s : List ℕ) (n word : ℕ) (out : List ℕ) {what : Arrived} {freed : List ℕ} → what ≡ PictureResponse → freed ≡ setConnection n free s
+    → fed (record { number = accepted; bytes = 0; steps = 0 }) freed out ≡ done (receive p scripts n word (told what) s) out
+unfolding receive done stopped writeEach
+picture p scripts s n word out e g = rw (e, g)
+
 abbrev start : tie.After-of → tie.Start
 start m = m .before .before .before .before .before
 
@@ -35,9 +42,9 @@ respond-requires c κs =
     let w = c .before .before .before in
     let m = w .before .before in
     let p = now (start m .args .policy) in
-    let (arriving, table, names, holds) = start m .pre in
+    let (session, connection, table, names, holds) = start m .pre in
     let e = w .what .given .1 in
-    (arriving, table, subst (Url p) (sym (m .of .ensures .3)) (subst (Holds p (start m .args .word)) e holds), subst (Names p) e names)
+    (session, connection, table, subst (Url p) (sym (m .of .ensures .3)) (subst (Holds p (start m .args .word)) e holds), subst (Names p) e names)
 
 returns : tie.Need-returns
 returns c =
@@ -45,16 +52,16 @@ returns c =
     let w = call .before .before .before .before in
     let m = w .before .before in
     let a = start m .args in
-    document (now (a .policy)) (now (a .scripts)) _ (a .from .connection) (a .word) (now (a .out)) (w .what .given .1) (m .of .ensures .3) (call .respond .ensures)
+    document (now (a .policy)) (now (a .scripts)) (now (a .state)) (a .connection) (a .word) (now (a .out)) (w .what .given .1) (m .of .ensures .3) (call .respond .ensures)
 
 respond-requires-2 : tie.Need-respond-requires-2
 respond-requires-2 c κs =
     let w = c .before .before .before in
     let m = w .before .before in
     let p = now (start m .args .policy) in
-    let (arriving, table, names, holds) = start m .pre in
+    let (session, connection, table, names, holds) = start m .pre in
     let held = subst (Holds p (start m .args .word)) (w .what2 .given .1) holds in
-    (arriving, table, subst (Url p) (sym (m .of .ensures .1)) (held .0), rw (m .of .ensures .2) (held .1))
+    (session, connection, table, subst (Url p) (sym (m .of .ensures .1)) (held .0), rw (m .of .ensures .2) (held .1))
 
 returns-2 : tie.Need-returns-2
 returns-2 c =
@@ -62,22 +69,31 @@ returns-2 c =
     let w = call .before .before .before .before in
     let m = w .before .before in
     let a = start m .args in
-    script (now (a .policy)) (now (a .scripts)) _ (a .from .connection) (a .word) (now (a .out)) (w .what2 .given .1) (m .of .ensures .1) (m .of .ensures .2) (call .respond2 .ensures)
+    script (now (a .policy)) (now (a .scripts)) (now (a .state)) (a .connection) (a .word) (now (a .out)) (w .what2 .given .1) (m .of .ensures .1) (m .of .ensures .2) (call .respond2 .ensures)
+
+returns-3 : tie.Need-returns-3
+returns-3 c =
+    let call = c .before .before in
+    let w = call .before .before in
+    let m = w .before .before in
+    let a = start m .args in
+    picture (now (a .policy)) (now (a .scripts)) (now (a .state)) (a .connection) (a .word) (now (a .out)) (w .enum-told .given .1) (call .set-connection .ensures)
 
 follow-requires : tie.Need-follow-requires
 follow-requires c κs =
     let w = c .before .before .before in
     let m = w .before .before in
-    (start m .pre .0, subst (Names (now (start m .args .policy))) (w .what3 .given .1) (start m .pre .2))
+    let (session, connection, table, names, holds) = start m .pre in
+    (session, connection, subst (Names (now (start m .args .policy))) (w .what3 .given .1) names)
 
-returns-3 : tie.Need-returns-3
-returns-3 c =
+returns-4 : tie.Need-returns-4
+returns-4 c =
     let call = c .before .before .before .before in
     let w = call .before .before .before .before in
     let m = w .before .before in
     let a = start m .args in
-    redirect (now (a .policy)) (now (a .scripts)) _ (a .from .connection) (a .word) (now (a .out)) (w .what3 .given .1) (call .follow .ensures)
+    redirect (now (a .policy)) (now (a .scripts)) (now (a .state)) (a .connection) (a .word) (now (a .out)) (w .what3 .given .1) (call .follow .ensures)
 
 pub receive-spec : {M : Type 1} → statement M
 receive-spec =
-    tie.close (tie.spec (λ c κs. search needs) (λ c. search needs) respond-requires (λ c. search needs) respond-requires-2 (λ c. search needs) follow-requires (λ c. search needs) (λ c. search needs) returns (λ c. search needs) (λ c. search needs) returns-2 (λ c. search needs) (λ c. search needs) returns-3)
+    tie.close (tie.spec (λ c κs. search needs) (λ c. search needs) respond-requires (λ c. search needs) respond-requires-2 (λ c. search needs) (λ c κs. search needs) (λ c. search needs) follow-requires (λ c. search needs) (λ c. search needs) returns (λ c. search needs) (λ c. search needs) returns-2 (λ c. search needs) returns-3 (λ c. search needs) (λ c. search needs) returns-4)

@@ -15,7 +15,13 @@ returns-2 c = let m = c .before .before in rw (← m .plain-map .ensures, ne-eqb
 
 returns-3 : tie.Need-returns-3
 unfolding arrivedOf branch
-returns-3 c = let m = c .before .before .before in rw (← m .plain-map .ensures, ne-eqb _ _ (c .before .before .if1 .left), ne-eqb _ _ (c .before .if2 .left))
+returns-3 c = let m = c .before .before .before in rw (← m .plain-map .ensures, ne-eqb _ _ (c .before .before .if1 .left), ne-eqb _ _ (c .before .if2 .left), eq-eqb _ _ (c .if3 .taken))
+
+returns-4 : tie.Need-returns-4
+unfolding arrivedOf branch
+returns-4 c =
+    let m = c .before .before .before .before in
+    rw (← m .plain-map .ensures, ne-eqb _ _ (c .before .before .before .if1 .left), ne-eqb _ _ (c .before .before .if2 .left), ne-eqb _ _ (c .before .if3 .left))
 
 pub arrived-of-spec : {M : Type 1} → statement M
-arrived-of-spec = tie.close (tie.spec (λ c κs. search needs) (λ c. search needs) returns returns-2 (λ c. search needs) returns-3)
+arrived-of-spec = tie.close (tie.spec (λ c κs. search needs) (λ c. search needs) returns returns-2 returns-3 (λ c. search needs) returns-4)

@@ -1,11 +1,11 @@
 -- `steps::step` meets its contract: the step of the four bytes at the place, by its operation.
-use Rattle.prelude.proofs.Kit.{ℕ, _≤_, List, _≡_, _∙_, refl, needs, now, length}
+use Rattle.prelude.proofs.Kit.{ℕ, _≤_, arith, List, _≡_, _∙_, refl, needs, now, length}
 use Rattle.prelude.specs.Choice.{branch}
 use Rattle.machine.specs.Scripts.{Step, step, stepOf, stepAt, goesOn}
 use Rattle.session.specs.Output.{output}
 use Rattle.scripts.specs.declared.position.Position.{Position}
 use Rattle.scripts.specs.Reached.{reached, after}
-use Rattle.scripts.proofs.OneStep.{stops, plain, fetched, unknown}
+use Rattle.scripts.proofs.OneStep.{stops, plain, fetched, unknown, pictured}
 use Rattle.scripts.proofs.steps.step.Statement.{statement}
 use Rattle.scripts.proofs.steps.step.Tie as tie
 
@@ -82,17 +82,38 @@ returns-6 c =
     let call = c .skip-if-zero in
     quiet (m .before) _ (call .result) (now (a .registers)) (now (a .state)) (at-place (m .before) 6 (m .match .keys6)) (call .ensures .0 (now (a .policy)) (now (a .state)) (a .connection) (a .page)) (call .ensures .1)
 
+-- step 7: what is then pending is a picture
+picture-requires : tie.Need-send-request-requires-2
+picture-requires c κs =
+    let made = c .before .before in
+    let (script, code, registers, place, written) = start (made .before .before) .pre in
+    (script .session, script .connection, omega (arith, made .bare .ensures .0), omega (arith, made .bare .ensures .1), place, written)
+
 returns-7 : tie.Need-returns-7
-unfolding step
+unfolding stepOf branch
 returns-7 c =
+    let call = c .before .before .before .before in
+    let made = call .before .before .before in
+    let m = made .before in
+    let a = start (m .before) .args in
+    let (kind, origin, handler, url) = made .bare .ensures in (
+      rw (at-place (m .before) 7 (m .match .keys7))
+          (pictured (now (a .policy)) (a .connection) (a .page) (a .position .place) (now (a .registers)) (now (a .state)) (m .before .before .before .byte2 .result) (m .before .before .byte3 .result) (output (a .position .written) (now (a .out)))
+          (call .send-request2 .ensures .0 (now (a .registers))) kind origin handler url),
+      call .send-request2 .ensures .1,
+    )
+
+returns-8 : tie.Need-returns-8
+unfolding step
+returns-8 c =
     let m = c .before in
     let a = start (m .before) .args in
     let op = m .before .before .before .before .byte .result in
     let none = m .match .rest in
     let call = c .ended in
-    let ends = at-place (m .before) op refl ∙ unknown op _ _ _ (none .0 .0 .0 .0 .0 .1) (none .0 .0 .0 .0 .1) (none .0 .0 .0 .1) (none .0 .0 .1) (none .0 .1) (none .1) in
+    let ends = at-place (m .before) op refl ∙ unknown op _ _ _ (none .0 .0 .0 .0 .0 .0 .1) (none .0 .0 .0 .0 .0 .1) (none .0 .0 .0 .0 .1) (none .0 .0 .0 .1) (none .0 .0 .1) (none .0 .1) (none .1) in
     quiet (m .before) _ (call .result) (now (a .registers)) (now (a .state)) ends (stops (now (a .registers)) (now (a .state)) (call .ensures .0)) (call .ensures .1)
 
 pub step-spec : {M : Type 1} → statement M
 step-spec =
-    tie.close (tie.spec (λ c. search needs) (λ c κs. search needs) (λ c. search needs) (λ c κs. search needs) (λ c. search needs) (λ c κs. search needs) (λ c. search needs) (λ c κs. search needs) (λ c. search needs) (λ c. search needs) (λ c. search needs) (λ c κs. search needs) (λ c κs. search needs) (λ c κs. search needs) (λ c κs. search needs) (λ c κs. search needs) (λ c κs. search needs) (λ c κs. search needs) (λ c. search needs) returns (λ c. search needs) returns-2 (λ c. search needs) (λ c. search needs) returns-3 (λ c. search needs) (λ c. search needs) returns-4 (λ c. search needs) (λ c. search needs) returns-5 (λ c. search needs) returns-6 returns-7)
+    tie.close (tie.spec (λ c. search needs) (λ c κs. search needs) (λ c. search needs) (λ c κs. search needs) (λ c. search needs) (λ c κs. search needs) (λ c. search needs) (λ c κs. search needs) (λ c. search needs) (λ c. search needs) (λ c. search needs) (λ c κs. search needs) (λ c κs. search needs) (λ c κs. search needs) (λ c κs. search needs) (λ c κs. search needs) (λ c κs. search needs) (λ c κs. search needs) picture-requires (λ c κs. search needs) (λ c. search needs) returns (λ c. search needs) returns-2 (λ c. search needs) (λ c. search needs) returns-3 (λ c. search needs) (λ c. search needs) returns-4 (λ c. search needs) (λ c. search needs) returns-5 (λ c. search needs) returns-6 (λ c. search needs) (λ c. search needs) returns-7 returns-8)

@@ -1,6 +1,6 @@
 -- `soundness::connection_sound` meets its contract: a free word, a word whose URL is none or does not fit, and any other by its shape.
 use Rattle.prelude.proofs.Kit.{sym, _∙_, needs, not-false, not-true, now}
-use Rattle.session.proofs.ConnectionTests.{free-sound, no-url, misfit, document, neither, script}
+use Rattle.session.proofs.ConnectionTests.{free-sound, no-url, misfit, bare, neither, script}
 use Rattle.session.proofs.soundness.connection_sound.Statement.{statement}
 use Rattle.session.proofs.soundness.connection_sound.Tie as tie
 
@@ -39,7 +39,7 @@ returns-4 c =
     let url = fit .before in
     let asked = url .before in
     let a = asked .before .before .before .args in
-    document (now (a .policy)) (a .connection) (a .word) (asked .before .if1 .left)
+    bare (now (a .policy)) (a .connection) (a .word) (asked .before .if1 .left)
     (sym (asked .is-url .ensures .0) ∙ not-false (asked .is-url .result) (url .if2 .left))
     (sym (fit .fits2 .ensures) ∙ not-false (fit .fits2 .result) (fitting .if3 .left))
     (sym (shape .is-bare .ensures) ∙ c .if4 .taken)
