@@ -45,7 +45,8 @@ enum {
     MONITOR_SCRIPT_BYTES = 2048,
     /* words 0 to 127: cookie values, at 8 * h + k; words 128 to 143: for each host, the keys present as bits 0 to 7
      * words 144 to 175: connections, 0 where free, else kind << 24 | origin << 16 | handler << 8 | URL, where kind is
-     * 1 for a document (origin and handler 0) and 2 for a script's request (origin a URL, handler a script, 0 to 15)
+     * 1 for a document (origin and handler 0), 2 for a script's request (origin a URL, handler a script, 0 to 15) and
+     * 3 for a picture (origin and handler 0)
      * A cookie that is present may have the value 0; one that is not has it. An open connection fits its URL: the connection's readers are
      * within the URL's, and the URL's message endpoint is among the connection's writers. */
     MONITOR_STATE_WORDS = 176,
@@ -83,7 +84,7 @@ enum monitor_number {
     MONITOR_CUT_OR_TOO_LONG = 11,
     /* the record names a URL or target that the policy does not have, a connection above 31 or a script above 15 */
     MONITOR_NAME_UNKNOWN = 6,
-    /* a response or redirect on a connection that is free or holds another URL, or a response of the other kind */
+    /* a response or redirect on a connection that is free or holds another URL, or a response of another kind than the connection */
     MONITOR_NOT_AWAITED = 7,
     /* readers forbid it: a load's connection has readers that the URL does not have; or a redirect's connection has readers that the
      * target does not have, or lacks the target's event endpoint */
@@ -104,23 +105,25 @@ struct monitor_answer {
 
 /* Records. A record is a map byte, whose bits say which fields follow, in this order: URL (bit 0, one byte), connection (bit 1, one byte),
  * cookies (bit 2), script (bit 3, one byte), value (bit 4), target URL (bit 5, one byte). A value has four bytes, the most significant first.
- * Cookies are a key map byte, not 0, whose bit k stands for key k, and then a value for each key in it, lowest first. Nothing follows the last
- * field. What is fed, by its map without and with cookies, in hexadecimal:
+ * Cookies are a key map byte, not 0, whose bit k stands for key k, and then a value for each key in it, lowest first. Bit 6 says that the record
+ * is a picture's, and no field follows for it. Nothing follows the last field. What is fed, by its map without and with cookies, in hexadecimal:
  *     03      load                 URL, connection
  *     0b 0f   document response    URL, connection, [cookies,] script
  *     13 17   script response      URL, connection, [cookies,] value
  *     23 27   redirect             URL, connection, [cookies,] target
+ *     43 47   picture response     URL, connection [, cookies]
  * What is sent:
  *     03 07   document request     URL, connection [, cookies]
  *     0b 0f   script request       URL, connection, [cookies,] handler
+ *     43 47   picture request      URL, connection [, cookies]
  * So 0f 00 02 05 00 00 00 07 00 00 00 09 01 is the document response of URL 0 on connection 2 that brings 7 for key 0 and 9 for key 2, and
  * names script 1.
  *
  * What an accepted record does, in this order:
  *     load        The connection is opened as a document at the URL, whatever was pending on it, and a document request goes out.
- *     response    Its cookies are stored, the connection is freed, and then a script runs. A document response runs the script that it names,
- *                 and the page is the connection's URL. A script response runs the connection's handler, the page is the connection's
- *                 origin, and register 0 is the value.
+ *     response    Its cookies are stored and the connection is freed; then, but for a picture response, a script runs. A document response
+ *                 runs the script that it names, and the page is the connection's URL. A script response runs the connection's handler, the page
+ *                 is the connection's origin, and register 0 is the value.
  *     redirect    Its cookies are stored. The connection moves to the target and keeps kind, origin and handler, and a request of its kind goes
  *                 out to the target, a script request with the connection's handler.
  *
@@ -140,6 +143,8 @@ struct monitor_answer {
  *         writers and within a's writers. It opens b as a script's request with the page as its origin, whatever was pending there, and sends a
  *         script request. The connection of the response is free by then, and may be opened too.
  *     6   if register a is 0, skip the b steps that follow
+ *     7   request a picture of URL a on connection b, if step 5 would be allowed. It opens b as a picture, whatever was pending there, and sends a
+ *         picture request; c is not used.
  * A script ends at step 0; at an unknown op; at a field that its op uses and that is out of range (a register above 3, a key above 7, a URL that
  * the policy does not have, a connection above 31, a handler above 15), allowed or not; at a read or request that is not allowed; at a read
  * of a cookie that is not present; and past its last step. Bytes that an op does not use are ignored. Each step that is met counts, the one

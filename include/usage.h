@@ -3,7 +3,7 @@
  *
  * A list is request records one right after another, without length bytes: for instance what monitor_feed wrote in a week, joined. What a
  * request record is, monitor.h describes under Records. So, in hexadecimal, 03 05 00 07 02 00 05 00 00 00 07 00 00 00 09 is a document
- * request to URL 5 on connection 0 without cookies, and one to URL 2 that carries two.
+ * request to URL 5 on connection 0 without cookies, and one to URL 2 that carries two. Requests of every kind are counted alike.
  *
  * Nothing is kept between calls and nothing is allocated; a call takes less than 2 KiB of stack. What it costs is in docs/PERFORMANCE.md. */
 #ifndef USAGE_H

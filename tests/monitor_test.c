@@ -1,5 +1,6 @@
-/* Links libmonitor.a: document 01's small post case by case, a script that is stopped on one connection and goes on on another, the endpoints of
- * every address, every wrong length of every buffer, null pointers, and random records. Every call is checked for what it must leave alone. */
+/* Links libmonitor.a: document 01's small post case by case, a script that is stopped on one connection and goes on on another, pictures, the
+ * endpoints of every address, every wrong length of every buffer, null pointers, and random records. Every call is checked for what it must leave
+ * alone. */
 #include <inttypes.h>
 #include <stdbool.h>
 #include <stdio.h>
@@ -230,6 +231,32 @@ static void scripts(void)
     }
 }
 
+/* A page requests a picture, whose response runs nothing though script 0 would send a request. No other kind of response is awaited with it. */
+static void pictures(void)
+{
+    static const uint8_t picture_of_0[] = {7, 0, 0, 255}, requests_0[] = {5, 0, 0, 0};
+    store_7("the picture's cookie");
+    memcpy(lent.scripts, requests_0, sizeof requests_0);
+    memcpy(lent.scripts + SCRIPT, picture_of_0, sizeof picture_of_0);
+    gives("the picture's page", BYTES(0x03, 0, 0), ACCEPTED(8, 0), (const uint8_t[]){0x07, 0, 0, 0x01, 0, 0, 0, 7});
+    gives("a picture on a document's connection", BYTES(0x43, 0, 0), REFUSED(MONITOR_NOT_AWAITED), NOTHING);
+    gives("a picture that is requested", BYTES(0x0b, 0, 0, 1), ACCEPTED(8, 2), (const uint8_t[]){0x47, 0, 0, 0x01, 0, 0, 0, 7});
+    check_state(7, 1, 3u << 24);
+    gives("a document on a picture's connection", BYTES(0x0b, 0, 0, 0), REFUSED(MONITOR_NOT_AWAITED), NOTHING);
+    gives("a script's value on a picture's connection", BYTES(0x13, 0, 0, 0, 0, 0, 5), REFUSED(MONITOR_NOT_AWAITED), NOTHING);
+    gives("a picture that is redirected", BYTES(0x23, 0, 0, 0), ACCEPTED(8, 0), (const uint8_t[]){0x47, 0, 0, 0x01, 0, 0, 0, 7});
+    check_state(7, 1, 3u << 24);
+    gives("a picture's response", BYTES(0x47, 0, 0, 0x01, 0, 0, 0, 9), ACCEPTED(0, 0), NOTHING);
+    check_state(9, 1, 0);
+    gives("a picture on a free connection", BYTES(0x43, 0, 0), REFUSED(MONITOR_NOT_AWAITED), NOTHING);
+    gives("a picture that is too long", BYTES(0x43, 0, 0, 0), REFUSED(MONITOR_CUT_OR_TOO_LONG), NOTHING);
+    static const uint32_t unsound[] = {3u << 24 | 1u << 8, 3u << 24 | 1u << 16, 3u << 24 | 64, 4u << 24};
+    for (size_t i = 0; i < sizeof unsound / sizeof *unsound; i++) {
+        lent.state[144] = unsound[i];
+        gives("a picture with a handler, an origin or no URL, or kind 4", BYTES(0x43, 0, 0), REFUSED(MONITOR_STATE_UNSOUND), NOTHING);
+    }
+}
+
 /* ---- the endpoints of an address: each question that is about one, asked of a set that has one endpoint */
 
 enum { READERS, SCRIPT_READERS, WRITERS };
@@ -301,20 +328,23 @@ static void ask_redirect(const struct asked *a, uint8_t endpoint)
           endpoint == a->message ? ACCEPTED(3, 0) : REFUSED(MONITOR_WRITERS_FORBID), request);
 }
 
-/* A script that requests the URL wants the event endpoint among its own readers, and the message endpoint among the free connection's writers. */
-static void ask_script(const struct asked *a, uint8_t endpoint)
+/* A script that requests the URL, by step 5 or as a picture by step 7, wants the event endpoint among its own readers, and the message endpoint among
+ * the free connection's writers. */
+static void ask_script(const struct asked *a, uint8_t endpoint, uint8_t operation)
 {
-    const uint8_t step[] = {5, a->url, a->free, 0}, request[] = {0x0b, a->url, a->free, 0};
+    const uint8_t step[] = {operation, a->url, a->free, 0};
+    const uint8_t request[] = {operation == 5 ? 0x0b : 0x43, a->url, a->free, 0};
+    const uint32_t bytes = operation == 5 ? 4 : 3;
     uint32_t *const sets = connection_sets(a->awaiting);
     open_post(a, 0, a->from);
     memcpy(lent.scripts, step, sizeof step);
     sets[READERS] = sets[SCRIPT_READERS] = 1u << endpoint;
-    gives("a script's event endpoint", BYTES(0x0b, a->from, a->awaiting, 0), endpoint == a->event ? ACCEPTED(4, 2) : ACCEPTED(0, 1), request);
+    gives("a script's event endpoint", BYTES(0x0b, a->from, a->awaiting, 0), endpoint == a->event ? ACCEPTED(bytes, 2) : ACCEPTED(0, 1), request);
     open_post(a, endpoint, a->from);
     memcpy(lent.scripts, step, sizeof step);
     sets[READERS] = sets[SCRIPT_READERS] = 1u << a->event;
     sets[WRITERS] = connection_sets(a->free)[WRITERS] = 1u << endpoint;
-    gives("a script's message endpoint", BYTES(0x0b, a->from, a->awaiting, 0), endpoint == a->message ? ACCEPTED(4, 2) : ACCEPTED(0, 1), request);
+    gives("a script's message endpoint", BYTES(0x0b, a->from, a->awaiting, 0), endpoint == a->message ? ACCEPTED(bytes, 2) : ACCEPTED(0, 1), request);
 }
 
 /* A request carries a cookie of the URL's host whose readers have the message endpoint. */
@@ -342,7 +372,8 @@ static void ask_all(uint8_t address, uint8_t message, uint8_t event)
             ask_row(&a, endpoint);
             ask_fit(&a, endpoint);
             ask_redirect(&a, endpoint);
-            ask_script(&a, endpoint);
+            ask_script(&a, endpoint, 5);
+            ask_script(&a, endpoint, 7);
             ask_cookie(&a, endpoint);
         }
     }
@@ -447,8 +478,8 @@ static void null_pointers(void)
 /* Sessions of policy P with random scripts. Records are mostly near good ones, so that many are accepted. */
 static void random_records(void)
 {
-    static const uint8_t maps[] = {0x03, 0x03, 0x0b, 0x0f, 0x13, 0x17, 0x23, 0x27};
-    static const uint8_t sizes[] = {3, 3, 4, 9, 7, 12, 4, 9};
+    static const uint8_t maps[] = {0x03, 0x03, 0x0b, 0x0f, 0x13, 0x17, 0x23, 0x27, 0x43, 0x47};
+    static const uint8_t sizes[] = {3, 3, 4, 9, 7, 12, 4, 9, 3, 8};
     unsigned long accepted = 0;
     doing = "random records";
     for (uint32_t k = 0; k < 20000; k++) {
@@ -462,7 +493,7 @@ static void random_records(void)
         for (size_t i = 0; i < sizeof record; i++) {
             record[i] = (uint8_t)(next_random() >> 8 & 3u);
         }
-        uint32_t kind = next_random() >> 8 & 7u;
+        size_t kind = (next_random() >> 8) % sizeof maps;
         record[0] = maps[kind];
         if ((record[0] & 0x04u) != 0) {
             record[3] = 1;
@@ -483,12 +514,13 @@ int main(void)
     cookies();
     malformed();
     scripts();
+    pictures();
     endpoints();
     no_addresses();
     wrong_lengths();
     null_pointers();
     random_records();
-    printf("monitor: cases a to j, the script in two connections, the endpoints of every address, every wrong length, null pointers agree, "
+    printf("monitor: cases a to j, the script in two connections, pictures, the endpoints of every address, every wrong length, null pointers agree, "
            "and random records touch nothing else: %lu calls\n",
            calls);
     return 0;

@@ -10,7 +10,7 @@
 #include "random.h"
 #include "usage.h"
 
-enum { DOCUMENT = 0x03, COOKIES = 0x04, SCRIPT = 0x0b };
+enum { DOCUMENT = 0x03, COOKIES = 0x04, SCRIPT = 0x0b, PICTURE = 0x43 };
 enum { CONNECTIONS = 32, HANDLERS = 16, KEYS = 8, ALL_KEYS = 0xff, BYTE_VALUES = 256, LONGEST_REQUEST = 37 };
 /* lists may be too long by so much; a guard has as many bytes */
 enum { SPARE = 64, PLACES = 16, GUARD_BYTE = 0xc5 };
@@ -22,7 +22,7 @@ struct list {
     struct usage_tally counts;
 };
 
-static const uint8_t MAPS[] = {DOCUMENT, DOCUMENT | COOKIES, SCRIPT, SCRIPT | COOKIES};
+static const uint8_t MAPS[] = {DOCUMENT, DOCUMENT | COOKIES, SCRIPT, SCRIPT | COOKIES, PICTURE, PICTURE | COOKIES};
 static const struct usage_tally BAD = {.number = USAGE_LIST_BAD};
 static uint8_t guarded[PLACES + SPARE + USAGE_LIST_BYTES + SPARE + SPARE];
 static struct list list;
@@ -233,6 +233,9 @@ static void worked_lists(void)
     check(same(&none, &(struct usage_tally){0}), "the empty list has counts");
     worked("a document request", BYTES(0x03, 5, 31), ROWS({5, 1, 0}));
     worked("a script request", BYTES(0x0b, 63, 0, 15), ROWS({63, 1, 0}));
+    worked("a picture request", BYTES(0x43, 7, 3), ROWS({7, 1, 0}));
+    worked("a picture request with cookies", BYTES(0x47, 7, 3, 0x81, 0, 0, 0, 1, 0, 0, 0, 2), ROWS({7, 1, 2}));
+    worked("a request of each kind", BYTES(0x03, 5, 2, 0x0b, 5, 2, 15, 0x43, 5, 2, 0x47, 3, 2, 0x01, 0, 0, 0, 9), ROWS({3, 1, 1}, {5, 3, 0}));
     worked("one cookie", BYTES(0x07, 0, 0, 0x80, 0, 0, 0, 7), ROWS({0, 1, 1}));
     worked("three cookies", BYTES(0x0f, 1, 2, 0x07, 0, 0, 0, 1, 0, 0, 0, 2, 0, 0, 0, 3, 4), ROWS({1, 1, 3}));
     worked("what document 01's cases f, f and g send", BYTES(0x07, 0, 0, 0x01, 0, 0, 0, 7, 0x07, 0, 0, 0x01, 0, 0, 0, 7, 0x03, 3, 3),
@@ -253,6 +256,10 @@ static void worked_lists(void)
     bad("URL 64 with cookies", BYTES(0x07, 64, 0, 0x01, 0, 0, 0, 7));
     bad("handler 16 after cookies", BYTES(0x0f, 0, 0, 0x01, 0, 0, 0, 7, 16));
     bad("a byte too many", BYTES(0x03, 0, 0, 0));
+    bad("a picture request with a handler", BYTES(0x43, 0, 0, 15));
+    bad("a picture's map with the script's bit", BYTES(0x4b, 0, 0, 15));
+    bad("a key map of zero on a picture", BYTES(0x47, 0, 0, 0));
+    bad("a picture of URL 64", BYTES(0x43, 64, 0));
     bad("a map alone", BYTES(0x03));
 }
 
@@ -303,7 +310,7 @@ static void each_cut(void)
     size_t whole = 0;
     struct usage_tally counts = list.counts;
     for (uint8_t i = 0; i < sizeof keys * sizeof MAPS; i++) {
-        request(MAPS[i % sizeof MAPS], i, i, keys[i / sizeof MAPS], i);
+        request(MAPS[i % sizeof MAPS], i, i, keys[i / sizeof MAPS], i % HANDLERS);
         gives(list.bytes, whole, &counts);
         for (size_t end = whole + 1; end < list.length; end++) {
             gives(list.bytes, end, &BAD);

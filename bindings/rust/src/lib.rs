@@ -43,7 +43,7 @@
 //! |---|---|---|
 //! | policy | [`POLICY_WORDS`] | words 0 to 191: 64 URLs of address, readers, writers ([`NO_URL`] where there is none); 192 to 447: readers and writers of the cookie of host h and key k, at 192 + 2 (8 h + k); 448 to 543: 32 connections of readers, script readers, writers |
 //! | script table | [`SCRIPT_BYTES`] | 16 scripts of 32 steps of 4 bytes: op, a, b, c |
-//! | state | [`STATE_WORDS`] | words 0 to 127: the values of cookies, at 8 h + k; 128 to 143: for each host, the keys present as bits 0 to 7; 144 to 175: connections, 0 where free, else kind << 24 \| origin << 16 \| handler << 8 \| URL, where kind is 1 for a document (origin and handler 0) and 2 for a script's request |
+//! | state | [`STATE_WORDS`] | words 0 to 127: the values of cookies, at 8 h + k; 128 to 143: for each host, the keys present as bits 0 to 7; 144 to 175: connections, 0 where free, else kind << 24 \| origin << 16 \| handler << 8 \| URL, where kind is 1 for a document, 2 for a script's request and 3 for a picture (origin and handler 0 but for a script's request) |
 //! | output | [`OUT_BYTES`] or more | requests, one right after another |
 //!
 //! An address is an endpoint, 0 to 31: http at host a for a below 16, https at host a - 16 from there on. A set of endpoints is a
@@ -142,7 +142,7 @@ refusals! {
     CutOrTooLong = 11, "the record is cut or too long";
     /// The record names a URL or target that the policy does not have, a connection above 31 or a script above 15.
     NameUnknown = 6, "the record names a URL, connection or script that there is not";
-    /// A response or redirect on a connection that is free or holds another URL, or a response of the other kind.
+    /// A response or redirect on a connection that is free or holds another URL, or a response of another kind than the connection.
     NotAwaited = 7, "the connection does not await this record";
     /// Readers forbid it: a load's connection has readers that the URL does not have; or a redirect's connection has readers that the
     /// target does not have, or lacks the target's event endpoint.

@@ -66,6 +66,20 @@ fn a_cookie_comes_with_a_response_and_goes_with_the_next_load() {
 }
 
 #[test]
+fn a_picture_is_requested_by_a_script_and_runs_none() {
+    let mut post = Post::new();
+    post.scripts[..4].copy_from_slice(&[7, 0, 0, 255]); // a picture of URL 0 on connection 0; the 255 is not used
+    assert_eq!(post.sends(&[0x03, 0, 0]), [0x03, 0, 0]);
+    assert_eq!(post.feed(&[0x43, 0, 0]), Err(Refusal::NotAwaited));
+    assert_eq!(post.sends(&[0x0b, 0, 0, 0]), [0x43, 0, 0]);
+    assert_eq!(post.state[144], 3 << 24);
+    assert_eq!(post.feed(&[0x0b, 0, 0, 0]), Err(Refusal::NotAwaited));
+    let picture = post.feed(&[0x47, 0, 0, 0x01, 0, 0, 0, 7]);
+    assert_eq!(picture, Ok(Accepted { bytes: 0, steps: 0 }));
+    assert_eq!((post.state[0], post.state[144]), (7, 0));
+}
+
+#[test]
 fn records_are_refused_by_name_and_change_nothing() {
     let refused: [(&[u8], Refusal); 11] = [
         (&[], Refusal::KindUnknown),

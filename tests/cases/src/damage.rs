@@ -1,11 +1,12 @@
 //! Damage to what the monitor is lent beside the record: each clause of the refusals 1 to 4, and anything at random.
 
 use crate::labels::{
-    event_set, Pending, Url, CONNECTIONS, CONNECTIONS_AT, DOCUMENT, HOSTS, KEYS, NO_URL, OPEN_AT,
-    OUTPUT_BYTES, PRESENT_AT, SCRIPT, SCRIPTS, STATE_WORDS, URLS,
+    event_set, Pending, Url, CONNECTIONS, CONNECTIONS_AT, HOSTS, KEYS, NO_URL, OPEN_AT,
+    OUTPUT_BYTES, PICTURE, PRESENT_AT, SCRIPTS, STATE_WORDS, URLS,
 };
 use crate::random::Random;
 use crate::setting::Setting;
+use crate::state;
 
 /// Another length: none at all, one off, or anything up to twice as long.
 fn resize<T: Copy + Default>(list: &mut Vec<T>, random: &Random) {
@@ -81,20 +82,16 @@ fn value_of_absent(state: &mut [u32], random: &Random) {
 
 fn damage_connection(setting: &Setting, state: &mut [u32], random: &Random) {
     let connection = setting.useful_connection(random);
-    let (kind, origin, handler) = random.pick(&[
-        (DOCUMENT, 0, 0),
-        (SCRIPT, setting.any_url(random), random.byte_below(16)),
-    ]);
-    let mut pending = Pending {
-        kind,
-        origin,
-        handler,
-        url: setting.fitting_url(connection, random),
-    };
+    let mut pending = state::pending(
+        setting.any_url(random),
+        random.byte_below(SCRIPTS as u8),
+        setting.fitting_url(connection, random),
+        random,
+    );
     let no_url = random.pick(&[URLS as u8, setting.no_url(random), 255, random.byte()]);
     match random.below(8) {
         0 => pending.kind = 0,
-        1 => pending.kind = random.pick(&[3, 4, 128, 255, random.byte()]),
+        1 => pending.kind = random.pick(&[PICTURE + 1, 5, 128, 255, random.byte()]),
         2 => pending.origin = random.pick(&[1, setting.any_url(random), random.byte()]),
         3 => pending.handler = random.pick(&[1, SCRIPTS as u8, random.byte()]),
         4 => pending.origin = no_url,

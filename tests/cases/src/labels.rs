@@ -131,6 +131,7 @@ pub struct Pending {
 
 pub const DOCUMENT: u8 = 1;
 pub const SCRIPT: u8 = 2;
+pub const PICTURE: u8 = 3;
 
 impl Pending {
     pub fn of(state: &[u32], connection: u8) -> Pending {

@@ -8,13 +8,16 @@ use crate::setting::Setting;
 
 pub const DOCUMENT_REQUEST: u8 = 0x03;
 pub const SCRIPT_REQUEST: u8 = 0x0b;
+pub const PICTURE_REQUEST: u8 = 0x43;
 
 /// The maps of requests.
-pub const MAPS: [u8; 4] = [
+pub const MAPS: [u8; 6] = [
     DOCUMENT_REQUEST,
     DOCUMENT_REQUEST | COOKIES,
     SCRIPT_REQUEST,
     SCRIPT_REQUEST | COOKIES,
+    PICTURE_REQUEST,
+    PICTURE_REQUEST | COOKIES,
 ];
 
 /// What the requests of a list are drawn from.
@@ -164,7 +167,7 @@ pub fn flawed(flaw: Flaw, random: &Random) -> Vec<u8> {
         Flaw::Url => fields.url = out_of(URLS, random),
         Flaw::Connection => fields.connection = out_of(CONNECTIONS, random),
         Flaw::Handler => {
-            fields.map |= SCRIPT_REQUEST;
+            fields.map = SCRIPT_REQUEST | fields.map & COOKIES;
             fields.script = out_of(SCRIPTS, random);
         }
     }

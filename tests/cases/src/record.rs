@@ -1,21 +1,25 @@
 //! Records: those that a setting and a state accept, those that just miss, and those that are none.
 
-use crate::labels::{open_connections, Pending, CONNECTIONS, DOCUMENT, KEYS, SCRIPTS, URLS};
+use crate::labels::{
+    open_connections, Pending, CONNECTIONS, DOCUMENT, KEYS, SCRIPT, SCRIPTS, URLS,
+};
 use crate::random::Random;
 use crate::setting::Setting;
 
 pub const LOAD: u8 = 0x03;
 pub const DOCUMENT_RESPONSE: u8 = 0x0b;
 pub const SCRIPT_RESPONSE: u8 = 0x13;
+pub const PICTURE_RESPONSE: u8 = 0x43;
 pub const REDIRECT: u8 = 0x23;
 
 /// The bit of a map that says that cookies follow.
 pub const COOKIES: u8 = 0x04;
 
-pub(crate) const INPUT_MAPS: [u8; 7] = [0x03, 0x0b, 0x0f, 0x13, 0x17, 0x23, 0x27];
+/// The maps of inputs.
+pub const INPUT_MAPS: [u8; 9] = [0x03, 0x0b, 0x0f, 0x13, 0x17, 0x23, 0x27, 0x43, 0x47];
 
 /// The input maps with cookies.
-const COOKIE_MAPS: [u8; 3] = [0x0f, 0x17, 0x27];
+const COOKIE_MAPS: [u8; 4] = [0x0f, 0x17, 0x27, 0x47];
 
 /// The map that a request can have and an input cannot.
 const REQUEST_MAP: u8 = LOAD | COOKIES;
@@ -169,10 +173,10 @@ fn some_keys(random: &Random) -> u8 {
 }
 
 fn response_to(pending: Pending) -> u8 {
-    if pending.kind == DOCUMENT {
-        DOCUMENT_RESPONSE
-    } else {
-        SCRIPT_RESPONSE
+    match pending.kind {
+        DOCUMENT => DOCUMENT_RESPONSE,
+        SCRIPT => SCRIPT_RESPONSE,
+        _ => PICTURE_RESPONSE,
     }
 }
 
@@ -192,7 +196,12 @@ fn twist_fields(twist: Twist, fields: &mut Fields, setting: &Setting, random: &R
         Twist::OtherUrl => fields.url = setting.any_url(random),
         Twist::OtherConnection => fields.connection = random.byte_below(CONNECTIONS as u8),
         Twist::OtherKind => {
-            let others = [DOCUMENT_RESPONSE, SCRIPT_RESPONSE, REDIRECT];
+            let others = [
+                DOCUMENT_RESPONSE,
+                SCRIPT_RESPONSE,
+                PICTURE_RESPONSE,
+                REDIRECT,
+            ];
             fields.map = random.pick(&others) | fields.map & COOKIES;
         }
     }
@@ -213,7 +222,7 @@ fn misname(fields: &mut Fields, setting: &Setting, random: &Random) {
 fn twist_bytes(record: &mut Vec<u8>, random: &Random) {
     match random.below(15) {
         0 => record.clear(),
-        1 => record[0] = random.byte(),
+        1 => record[0] = random.pick(&[random.byte(), record[0] ^ 1 << random.below(8)]),
         2 => record[0] = random.pick(&INPUT_MAPS),
         3 | 4 => record.truncate(random.below(record.len())),
         5 | 6 => cut_cookies(record, random),
@@ -256,12 +265,15 @@ fn rewrite(record: &mut Vec<u8>, map: u8, keys: u8, random: &Random) {
     fields.write(record);
 }
 
-/// A map with cookies, an empty key map, and what else the map asks for, or less or more than that.
+/// A map with cookies, an empty key map, and what else the map asks for, or less or more than that. A picture response has nothing behind
+/// its key map that could be cut off.
 fn no_keys(record: &mut Vec<u8>, random: &Random) {
     rewrite(record, random.pick(&COOKIE_MAPS), 0, random);
+    let shortest = KEY_MAP_AT + 1;
     match random.below(3) {
         0 => {}
-        1 => record.truncate(random.within(KEY_MAP_AT + 1..=record.len() - 1)),
+        1 if record.len() == shortest => {}
+        1 => record.truncate(random.within(shortest..=record.len() - 1)),
         _ => lengthen(record, random.pick(&[1, 4, random.within(1..=256)]), random),
     }
 }

@@ -12,6 +12,7 @@ const READ: u8 = 3;
 const WRITE: u8 = 4;
 const SEND: u8 = 5;
 const SKIP: u8 = 6;
+const PICTURE: u8 = 7;
 
 const REGISTERS: u8 = 4;
 
@@ -25,28 +26,32 @@ enum Style {
     /// A program with steps out of range, or that the labels may not allow.
     Careless,
     /// A request in each step.
-    Sends,
+    Requests,
     /// The same request in each step.
-    SameSend,
+    SameRequest,
 }
 
 const STYLES: [(usize, Style); 6] = [
     (1, Style::Zero),
     (1, Style::Bytes),
     (7, Style::Program),
-    (5, Style::Careless),
-    (2, Style::Sends),
-    (1, Style::SameSend),
+    (6, Style::Careless),
+    (2, Style::Requests),
+    (1, Style::SameRequest),
 ];
 
-const OPS: [(usize, u8); 6] = [
+const OPS: [(usize, u8); 7] = [
     (2, CONSTANT),
     (2, ADD),
     (4, READ),
     (4, WRITE),
     (4, SEND),
     (2, SKIP),
+    (2, PICTURE),
 ];
+
+/// The steps that send a request. Only those with a handler fill the whole output.
+const REQUEST_OPS: [(usize, u8); 2] = [(2, SEND), (1, PICTURE)];
 
 pub fn random_table(setting: &Setting, random: &Random) -> Vec<u8> {
     let mut table = Vec::with_capacity(SCRIPTS * STEPS * STEP_BYTES);
@@ -68,15 +73,16 @@ struct Composer<'a> {
 
 impl Composer<'_> {
     fn write(&self, style: Style, table: &mut Vec<u8>, random: &Random) {
-        let same = self.send(random);
+        let any = || self.request(random.weighted(&REQUEST_OPS), random);
+        let same = any();
         for _ in 0..STEPS {
             let step = match style {
                 Style::Zero => [0; STEP_BYTES],
                 Style::Bytes => random.word().to_le_bytes(),
                 Style::Program => self.kept(random),
                 Style::Careless => self.careless(random),
-                Style::Sends => self.send(random),
-                Style::SameSend => same,
+                Style::Requests => any(),
+                Style::SameRequest => same,
             };
             table.extend_from_slice(&step);
         }
@@ -85,8 +91,8 @@ impl Composer<'_> {
     fn careless(&self, random: &Random) -> [u8; STEP_BYTES] {
         match random.below(24) {
             0 | 1 => self.one_field_off(random),
-            2 => self.whatever(random),
-            3 => [END, random.byte(), random.byte(), random.byte()],
+            2 | 3 => self.whatever(random),
+            4 => [END, random.byte(), random.byte(), random.byte()],
             _ => self.kept(random),
         }
     }
@@ -112,7 +118,7 @@ impl Composer<'_> {
                 let key = key.unwrap_or(random.byte_below(KEYS as u8));
                 [op, key, a, random.byte()]
             }
-            SEND => self.send(random),
+            SEND | PICTURE => self.request(op, random),
             _ => [op, a, random.byte_below(6), random.byte()],
         }
     }
@@ -125,7 +131,7 @@ impl Composer<'_> {
         match op {
             READ => [op, register, key, random.byte()],
             WRITE => [op, key, register, random.byte()],
-            SEND => self.other_send(random),
+            SEND | PICTURE => self.other_request(op, random),
             SKIP => [op, register, random.byte(), random.byte()],
             _ => self.kept(random),
         }
@@ -136,10 +142,10 @@ impl Composer<'_> {
         let mut step = self.kept(random);
         let field = random.below(STEP_BYTES);
         let first_bad = match (step[0], field) {
-            (_, 0) => SKIP + 1,
+            (_, 0) => PICTURE + 1,
             (WRITE, 1) | (READ, 2) => KEYS as u8,
-            (SEND, 1) => self.setting.no_url(random),
-            (SEND, 2) => CONNECTIONS as u8,
+            (SEND | PICTURE, 1) => self.setting.no_url(random),
+            (SEND | PICTURE, 2) => CONNECTIONS as u8,
             (SEND, 3) => SCRIPTS as u8,
             _ => REGISTERS,
         };
@@ -148,7 +154,7 @@ impl Composer<'_> {
     }
 
     /// A request that the home's labels allow, if one is found in a few draws.
-    fn send(&self, random: &Random) -> [u8; STEP_BYTES] {
+    fn request(&self, op: u8, random: &Random) -> [u8; STEP_BYTES] {
         let policy = &self.setting.policy;
         let home = Connection::of(policy, self.home.connection);
         let mut url = 0;
@@ -160,12 +166,17 @@ impl Composer<'_> {
                 break;
             }
         }
-        [SEND, url, connection, random.byte_below(SCRIPTS as u8)]
+        let handler = random.byte_below(SCRIPTS as u8);
+        let last = match op {
+            SEND => handler,
+            _ => random.pick(&[handler, 255, random.byte()]),
+        };
+        [op, url, connection, last]
     }
 
     /// A request that was allowed, to another URL or on another connection: often a single condition fails.
-    fn other_send(&self, random: &Random) -> [u8; STEP_BYTES] {
-        let mut step = self.send(random);
+    fn other_request(&self, op: u8, random: &Random) -> [u8; STEP_BYTES] {
+        let mut step = self.request(op, random);
         if random.one_in(2) {
             step[1] = self.setting.any_url(random);
         } else {

@@ -1,7 +1,8 @@
 //! Sound states for a setting.
 
 use crate::labels::{
-    Pending, CONNECTIONS, DOCUMENT, HOSTS, KEYS, OPEN_AT, PRESENT_AT, SCRIPT, SCRIPTS, STATE_WORDS,
+    Pending, CONNECTIONS, DOCUMENT, HOSTS, KEYS, OPEN_AT, PICTURE, PRESENT_AT, SCRIPT, SCRIPTS,
+    STATE_WORDS,
 };
 use crate::random::Random;
 use crate::setting::Setting;
@@ -73,9 +74,14 @@ fn open_connections(setting: &Setting, state: &mut [u32], random: &Random) {
     }
 }
 
-/// A document or a script's request.
-fn pending(origin: u8, handler: u8, url: u8, random: &Random) -> Pending {
-    let (kind, origin, handler) = random.pick(&[(DOCUMENT, 0, 0), (SCRIPT, origin, handler)]);
+/// A document, a script's request, which alone has an origin and a handler, or a picture. Pictures are fewer, since nothing runs on a
+/// response to one.
+pub(crate) fn pending(origin: u8, handler: u8, url: u8, random: &Random) -> Pending {
+    let (kind, origin, handler) = random.weighted(&[
+        (2, (DOCUMENT, 0, 0)),
+        (2, (SCRIPT, origin, handler)),
+        (1, (PICTURE, 0, 0)),
+    ]);
     Pending {
         kind,
         origin,

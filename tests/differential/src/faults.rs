@@ -2,6 +2,8 @@
 
 use cases::difference::Difference;
 use cases::guarded::flip;
+use cases::labels::{DOCUMENT, OPEN_AT, PICTURE, SCRIPT, STEP_BYTES};
+use cases::record::{COOKIES, DOCUMENT_RESPONSE, PICTURE_RESPONSE, REDIRECT, SCRIPT_RESPONSE};
 use reference::numbers::{CUT_OR_TOO_LONG, KEY_MAP_EMPTY, READERS_FORBID, WRITERS_FORBID};
 use reference::Answer;
 
@@ -54,6 +56,43 @@ fn spoiling(spoil: Spoil) -> Monitor {
     })
 }
 
+/// A monitor that takes what it is lent for something else, where it then accepts it.
+fn mistaking(mistake: fn(&mut Buffers)) -> Monitor {
+    Box::new(move |buffers| {
+        let mut mistaken = buffers.clone();
+        mistake(&mut mistaken);
+        let answer = honest(&mut mistaken);
+        if answer.number != 0 {
+            return honest(buffers);
+        }
+        buffers.copy_written(&mistaken);
+        answer
+    })
+}
+
+/// Where the record has this map, with or without cookies, takes its connection for one of another kind.
+fn mistake_kind(buffers: &mut Buffers, of_map: u8, right: u8, wrong: u8) {
+    let &[map, _, connection, ..] = buffers.record.inside() else {
+        return;
+    };
+    let place = OPEN_AT + usize::from(connection);
+    let Some(word) = buffers.state.inside_mut().get_mut(place) else {
+        return;
+    };
+    let [kind, .., url] = word.to_be_bytes();
+    if map & !COOKIES == of_map && kind == right {
+        *word = u32::from_be_bytes([wrong, 0, 0, url]);
+    }
+}
+
+/// Takes each of these steps of the scripts for an end.
+fn mistake_steps(buffers: &mut Buffers, is_end: fn(&[u8]) -> bool) {
+    let steps = buffers.scripts.inside_mut().chunks_exact_mut(STEP_BYTES);
+    steps
+        .filter(|step| is_end(step))
+        .for_each(|step| step.fill(0));
+}
+
 fn assert_found(monitor: Monitor, what: &str) {
     let found = first_difference(monitor).expect("the fault is found");
     assert_eq!(format!("{}{}", found.part, found.what), what, "{found}");
@@ -81,6 +120,56 @@ fn a_wrong_answer_is_found() {
         ..answer
     });
     assert_found(steps, "answer's steps");
+}
+
+#[test]
+fn a_response_taken_on_another_kind_is_found() {
+    let faults: [fn(&mut Buffers); 4] = [
+        |buffers| mistake_kind(buffers, PICTURE_RESPONSE, DOCUMENT, PICTURE),
+        |buffers| mistake_kind(buffers, PICTURE_RESPONSE, SCRIPT, PICTURE),
+        |buffers| mistake_kind(buffers, DOCUMENT_RESPONSE, PICTURE, DOCUMENT),
+        |buffers| mistake_kind(buffers, SCRIPT_RESPONSE, PICTURE, SCRIPT),
+    ];
+    for fault in faults {
+        assert_found(mistaking(fault), "answer's number");
+    }
+}
+
+/// A picture response taken for a document response whose script ends at once.
+#[test]
+fn a_script_on_a_picture_response_is_found() {
+    let runs = mistaking(|buffers| {
+        if let &[PICTURE_RESPONSE, url, connection] = buffers.record.inside() {
+            mistake_kind(buffers, PICTURE_RESPONSE, PICTURE, DOCUMENT);
+            mistake_steps(buffers, |_| true);
+            let response = [DOCUMENT_RESPONSE, url, connection, 0];
+            buffers.record.lay_bare(&response);
+        }
+    });
+    assert_found(runs, "answer's steps");
+}
+
+#[test]
+fn a_script_that_ends_at_a_picture_is_found() {
+    let unknown = mistaking(|buffers| mistake_steps(buffers, |step| step[0] == 7));
+    assert_found(unknown, "answer's bytes");
+    let with_handler = mistaking(|buffers| {
+        mistake_steps(buffers, |step| step[0] == 7 && step[3] > 15);
+    });
+    assert_found(with_handler, "answer's bytes");
+}
+
+#[test]
+fn a_picture_redirected_as_a_document_is_found() {
+    let request = spoiling(|answer, buffers| {
+        let sent = &mut buffers.out.inside_mut()[..answer.bytes as usize];
+        if let (Some(map), [0x23 | 0x27, ..]) = (sent.first_mut(), buffers.record.inside()) {
+            *map &= !0x40;
+        }
+    });
+    assert_found(request, "output");
+    let kind = mistaking(|buffers| mistake_kind(buffers, REDIRECT, PICTURE, DOCUMENT));
+    assert_found(kind, "state");
 }
 
 #[test]

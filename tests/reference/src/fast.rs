@@ -238,36 +238,66 @@ fn pending_sound(policy: &Policy, some_empty: bool, state: &State) -> bool {
 }
 
 /// An open connection. No branch depends on the kind, which could not be
-/// foreseen: what the word may hold is looked up by kind, and a document's
-/// origin is tried like that of a script's request, row 0 being seldom empty.
+/// foreseen: what the word may hold is looked up by kind, and the origin of a
+/// document or picture is tried like that of a script's request, row 0 being
+/// seldom empty.
 #[inline(always)]
 fn open_sound(policy: &Policy, some_empty: bool, row: &ConnectionRow, word: u32) -> bool {
     let [address, readers, _] = url_row(policy, word);
     if address >= ADDRESSES || outside(row[0], readers) != 0 || !holds(row[2], address) {
         return false;
     }
-    if word & BEYOND_KIND[word as usize >> 24] != 0 {
+    if word & kind_of(word).beyond != 0 {
         return false;
     }
-    !some_empty || url_row(policy, word >> 16)[0] != NO_ADDRESS || is_document(word)
+    !some_empty || url_row(policy, word >> 16)[0] != NO_ADDRESS || has_no_origin(word)
 }
 
 #[cold]
 #[inline(never)]
-fn is_document(word: u32) -> bool {
-    word >> 24 == KIND_DOCUMENT
+fn has_no_origin(word: u32) -> bool {
+    word >> 24 != KIND_SCRIPT
 }
 
-/// For each kind, the bits that an open connection's word must not have:
-/// beyond URL 63, and for a script's request beyond origin 63 and handler
-/// 15. An unknown kind, and kind 0 in a word that is not 0, has one of them.
-static BEYOND_KIND: [u32; 256] = beyond_kind();
+/// What belongs to a kind of connection.
+#[derive(Clone, Copy)]
+struct KindRules {
+    /// The bits that an open connection's word must not have: beyond URL 63,
+    /// and for a script's request beyond origin 63 and handler 15.
+    beyond: u32,
+    /// The map of its request, without cookies.
+    request: u8,
+}
 
-const fn beyond_kind() -> [u32; 256] {
-    let mut table = [u32::MAX; 256];
-    table[KIND_DOCUMENT as usize] = 0x00FF_FFC0;
-    table[KIND_SCRIPT as usize] = 0x00C0_F0C0;
+/// The kinds by number. In an unknown one, and in kind 0 where the word is not
+/// 0, some bit is beyond.
+static KINDS: [KindRules; 256] = kinds();
+
+const fn kinds() -> [KindRules; 256] {
+    let unknown = KindRules {
+        beyond: u32::MAX,
+        request: 0,
+    };
+    let mut table = [unknown; 256];
+    table[KIND_DOCUMENT as usize] = KindRules {
+        beyond: 0x00FF_FFC0,
+        request: MAP_DOCUMENT_REQUEST,
+    };
+    table[KIND_SCRIPT as usize] = KindRules {
+        beyond: 0x00C0_F0C0,
+        request: MAP_SCRIPT_REQUEST,
+    };
+    table[KIND_PICTURE as usize] = KindRules {
+        beyond: 0x00FF_FFC0,
+        request: MAP_PICTURE_REQUEST,
+    };
     table
+}
+
+/// What belongs to the kind of a connection with this word.
+#[inline(always)]
+fn kind_of(word: u32) -> KindRules {
+    KINDS[word as usize >> 24]
 }
 
 /// The kind of a record, with the field that only this kind has.
@@ -276,6 +306,7 @@ enum Kind {
     Load,
     Document(u32),
     Script(u32),
+    Picture,
     Redirect(u32),
 }
 
@@ -309,6 +340,7 @@ fn read_record(bytes: &[u8]) -> Option<Record<'_>> {
         (MAP_SCRIPT | MAP_SCRIPT_COOKIES, &[a, b, c, d]) => {
             Kind::Script(u32::from_be_bytes([a, b, c, d]))
         }
+        (MAP_PICTURE | MAP_PICTURE_COOKIES, []) => Kind::Picture,
         _ => return None,
     };
     Some(Record {
@@ -342,6 +374,8 @@ fn is_input_map(map: u8) -> bool {
             | MAP_DOCUMENT_COOKIES
             | MAP_SCRIPT
             | MAP_SCRIPT_COOKIES
+            | MAP_PICTURE
+            | MAP_PICTURE_COOKIES
             | MAP_REDIRECT
             | MAP_REDIRECT_COOKIES
     )
@@ -357,11 +391,13 @@ fn check_record(policy: &Policy, state: &mut State, record: &Record) -> Result<(
     let row = connection_row(policy, record.connection);
     let word = *pending(state, record.connection);
     let same_url = word % 256 == record.url;
+    let check_awaited = |kind| check_match(same_url && word >> 24 == kind);
     match record.kind {
         Kind::Load => check_fit(outside(row[0], url[1]), holds(row[2], url[0])),
         Kind::Document(script) if script > 15 => Err(NAME_UNKNOWN),
-        Kind::Document(_) => check_match(same_url && word >> 24 == KIND_DOCUMENT),
-        Kind::Script(_) => check_match(same_url && word >> 24 == KIND_SCRIPT),
+        Kind::Document(_) => check_awaited(KIND_DOCUMENT),
+        Kind::Script(_) => check_awaited(KIND_SCRIPT),
+        Kind::Picture => check_awaited(KIND_PICTURE),
         Kind::Redirect(target) => {
             let to = url_row(policy, target);
             if target > 63 || to[0] == NO_ADDRESS {
@@ -404,27 +440,37 @@ fn carry_out(
     out: &mut Output,
 ) -> Answer {
     let word = *pending(state, record.connection);
-    let (next, script, page, value) = match record.kind {
-        Kind::Load => (KIND_DOCUMENT << 24 | record.url, 0, 0, 0),
-        Kind::Redirect(target) => (word & !255 | target, 0, 0, 0),
-        Kind::Document(script) => (0, script, record.url, 0),
-        Kind::Script(value) => (0, word >> 8, word >> 16, value),
-    };
     if record.keys != 0 {
         store_cookies(policy, state, record);
     }
+    let next = match record.kind {
+        Kind::Load => KIND_DOCUMENT << 24 | record.url,
+        Kind::Redirect(target) => word & !255 | target,
+        Kind::Document(_) | Kind::Script(_) | Kind::Picture => 0,
+    };
     *pending(state, record.connection) = next;
-    if next != 0 {
-        let bytes = write_request(policy, state, record.connection, next, out, 0);
-        return Answer {
-            number: ACCEPTED,
-            bytes: bytes as u32,
-            steps: 0,
-        };
-    }
+    let (script, page, value) = match record.kind {
+        Kind::Document(script) => (script, record.url, 0),
+        Kind::Script(value) => (word >> 8, word >> 16, value),
+        Kind::Picture => return without_script(0),
+        Kind::Load | Kind::Redirect(_) => {
+            let bytes = write_request(policy, state, record.connection, next, out, 0);
+            return without_script(bytes);
+        }
+    };
     let (scripts, _) = scripts.as_chunks::<SCRIPT_BYTES>();
     let script = &scripts[script as usize % SCRIPTS];
     run(policy, state, out, script, [record.connection, page, value])
+}
+
+/// The answer to an accepted record that runs no script.
+#[inline(always)]
+fn without_script(bytes: usize) -> Answer {
+    Answer {
+        number: ACCEPTED,
+        bytes: bytes as u32,
+        steps: 0,
+    }
 }
 
 /// Stores the delivered cookies that may be stored.
@@ -464,13 +510,12 @@ fn write_request(
     out[1] = word as u8;
     out[2] = connection as u8;
     let (keys, mut length) = write_cookies(policy, state, address, out);
-    let mut map = MAP_DOCUMENT_REQUEST;
+    let mut map = kind_of(word).request;
     if keys != 0 {
         map |= BIT_COOKIES;
         out[3] = keys as u8;
     }
     if word >> 24 == KIND_SCRIPT {
-        map |= MAP_SCRIPT_REQUEST;
         out[length] = (word >> 8) as u8;
         length += 1;
     }
@@ -592,13 +637,14 @@ fn run(
 
 /// The bits of a step, op in the lowest byte, that must be 0 for the used
 /// fields to be in range: registers at most 3, keys 7, URLs 63, connections
-/// 31, handlers 15.
+/// 31, handlers 15. The last field of a picture is not used.
 const BEYOND_SET: u32 = 0x0000_FC00;
 const BEYOND_ADD: u32 = 0xFCFC_FC00;
 const BEYOND_READ: u32 = 0x00F8_FC00;
 const BEYOND_WRITE: u32 = 0x00FC_F800;
 const BEYOND_SEND: u32 = 0xF0E0_C000;
 const BEYOND_SKIP: u32 = 0x0000_FC00;
+const BEYOND_PICTURE: u32 = 0x00E0_C000;
 
 impl Interpreter<'_> {
     /// One step: how many steps to skip, or none at the end.
@@ -616,7 +662,10 @@ impl Interpreter<'_> {
                 let value = *self.register(b);
                 self.write(a, value);
             }
-            OP_SEND if step & BEYOND_SEND == 0 => self.send(a, b, c)?,
+            OP_SEND if step & BEYOND_SEND == 0 => {
+                self.request(b, KIND_SCRIPT << 24 | self.page << 16 | c << 8 | a)?;
+            }
+            OP_PICTURE if step & BEYOND_PICTURE == 0 => self.request(b, KIND_PICTURE << 24 | a)?,
             OP_SKIP if step & BEYOND_SKIP == 0 && *self.register(a) == 0 => return Some(b),
             OP_SKIP if step & BEYOND_SKIP == 0 => {}
             _ => return None,
@@ -650,9 +699,10 @@ impl Interpreter<'_> {
         }
     }
 
+    /// Opens a connection with this word where the labels allow it.
     #[inline(always)]
-    fn send(&mut self, number: u32, connection: u32, handler: u32) -> Option<()> {
-        let url = url_row(self.policy, number);
+    fn request(&mut self, connection: u32, word: u32) -> Option<()> {
+        let url = url_row(self.policy, word);
         let other = connection_row(self.policy, connection);
         let allowed = url[0] != NO_ADDRESS
             && holds(self.readers, url[0] % 16)
@@ -662,7 +712,6 @@ impl Interpreter<'_> {
         if !allowed {
             return None;
         }
-        let word = KIND_SCRIPT << 24 | self.page << 16 | handler << 8 | number;
         *pending(self.state, connection) = word;
         self.bytes = write_request(
             self.policy,

@@ -1,8 +1,10 @@
 //! The interpreter of scripts.
 
+use crate::kind::ConnectionKind;
 use crate::layout::*;
 use crate::policy::{ConnectionTag, Policy, Url};
 use crate::request::write_request;
+use crate::request_step::{RequestStep, PICTURE, SEND};
 use crate::seen::{Event, Seen};
 use crate::state::{Pending, State};
 
@@ -77,6 +79,7 @@ impl Interpreter<'_> {
             OP_WRITE => self.write(a, b),
             OP_SEND => self.send(a, b, c),
             OP_SKIP => self.skip(a, b),
+            OP_PICTURE => self.picture(a, b, c),
             _ => Err(End(Event::EndUnknown)),
         }
     }
@@ -142,27 +145,75 @@ impl Interpreter<'_> {
     }
 
     /// Request URL a on connection b with handler c: opens b for a script,
-    /// with the page as origin, replacing what was there.
+    /// with the page as origin.
     fn send(&mut self, a: usize, b: usize, c: usize) -> Outcome {
-        let a = below(URLS, a, Event::EndSendUrlAbove)?;
-        let url = self.policy.url(a).ok_or(End(Event::EndSendUrlEmpty))?;
-        let b = below(CONNECTIONS, b, Event::EndSendConnection)?;
+        let url = self.named(a, b, &SEND)?;
         let handler = below(SCRIPTS, c, Event::EndSendHandler)?;
-        check_send(self.own(), self.policy.connection(b), url)?;
-        self.note_send(b);
-        self.state.pending[b] = Pending::Script {
+        self.check_request(b, &url, &SEND)?;
+        let pending = Pending {
+            kind: ConnectionKind::Script,
             url: a,
             origin: self.page,
             handler,
         };
-        let carried = write_request(self.policy, self.state, b, self.output, self.seen);
-        if carried.iter().any(|&(key, _)| !self.reads(url.host(), key)) {
-            self.seen.note(Event::CarriedUnreadable);
-        }
+        self.request(b, pending, &SEND);
+        self.seen.note(Event::StepSend);
         if self.output.len() == OUTPUT_BYTES {
             self.seen.note(Event::FullOutput);
         }
         Ok(0)
+    }
+
+    /// Request a picture of URL a on connection b. What c holds is ignored.
+    fn picture(&mut self, a: usize, b: usize, c: usize) -> Outcome {
+        let url = self.named(a, b, &PICTURE)?;
+        self.check_request(b, &url, &PICTURE)?;
+        let pending = Pending::unhandled(ConnectionKind::Picture, a);
+        let carries = self.request(b, pending, &PICTURE);
+        self.seen.note(match carries {
+            false => Event::StepPicture,
+            true => Event::StepPictureCookies,
+        });
+        if c >= SCRIPTS {
+            self.seen.note(Event::StepPictureUnused);
+        }
+        Ok(0)
+    }
+
+    /// The URL of number a, where there is one and a connection b too.
+    fn named(&self, a: usize, b: usize, step: &RequestStep) -> Result<Url, End> {
+        let a = below(URLS, a, step.url_above)?;
+        let url = self.policy.url(a).ok_or(End(step.url_empty))?;
+        below(CONNECTIONS, b, step.connection)?;
+        Ok(*url)
+    }
+
+    /// A request is allowed if: the URL's event endpoint is in the script
+    /// readers; the other connection's readers are within the script readers;
+    /// that connection fits the URL; the own writers are within that
+    /// connection's writers and within the URL's writers.
+    fn check_request(&self, connection: usize, url: &Url, step: &RequestStep) -> Result<(), End> {
+        let own = self.own();
+        let other = self.policy.connection(connection);
+        require(own.script_readers.holds(url.event_endpoint()), step.event)?;
+        require(other.readers.within(own.script_readers), step.readers)?;
+        require(other.readers_fit(url), step.fit_readers)?;
+        require(other.writers_fit(url), step.fit_writers)?;
+        require(own.writers.within(other.writers), step.writers)?;
+        require(own.writers.within(url.writers), step.url_writers)
+    }
+
+    /// Opens a connection, replacing what was there, and sends its request;
+    /// whether that carries cookies.
+    fn request(&mut self, connection: usize, pending: Pending, step: &RequestStep) -> bool {
+        self.note_opened(connection, step);
+        self.state.pending[connection] = Some(pending);
+        let carried = write_request(self.policy, self.state, connection, self.output, self.seen);
+        let host = self.host_of(pending.url);
+        if carried.iter().any(|&(key, _)| !self.reads(host, key)) {
+            self.seen.note(step.unreadable);
+        }
+        !carried.is_empty()
     }
 
     /// If register a is 0, skip the b steps that follow.
@@ -191,36 +242,24 @@ impl Interpreter<'_> {
 
     /// The page's host.
     fn host(&self) -> usize {
-        let page = self.policy.url(self.page);
-        page.expect("a page is a URL").host()
+        self.host_of(self.page)
     }
 
-    fn note_send(&mut self, connection: usize) {
-        self.seen.note(Event::StepSend);
-        if self.state.pending[connection] != Pending::Free {
-            self.seen.note(Event::StepSendReplaces);
+    /// The host of a URL that was checked.
+    fn host_of(&self, url: usize) -> usize {
+        self.policy.url(url).expect("the URL was checked").host()
+    }
+
+    /// What a request finds on the connection that it is about to open.
+    fn note_opened(&mut self, connection: usize, step: &RequestStep) {
+        if let Some(replaced) = self.state.pending[connection] {
+            self.seen.note(step.replaces);
+            if replaced.kind == ConnectionKind::Picture {
+                self.seen.note(step.replaces_picture);
+            }
         }
         if connection == self.connection {
-            self.seen.note(Event::StepSendSame);
+            self.seen.note(step.same);
         }
     }
-}
-
-/// A send is allowed if: the URL's event endpoint is in the script readers;
-/// the other connection's readers are within the script readers; that
-/// connection fits the URL; the own writers are within that connection's
-/// writers and within the URL's writers.
-fn check_send(own: &ConnectionTag, other: &ConnectionTag, url: &Url) -> Result<(), End> {
-    require(
-        own.script_readers.holds(url.event_endpoint()),
-        Event::EndSendEvent,
-    )?;
-    require(
-        other.readers.within(own.script_readers),
-        Event::EndSendReaders,
-    )?;
-    require(other.readers_fit(url), Event::EndSendFitReaders)?;
-    require(other.writers_fit(url), Event::EndSendFitWriters)?;
-    require(own.writers.within(other.writers), Event::EndSendWriters)?;
-    require(own.writers.within(url.writers), Event::EndSendUrlWriters)
 }

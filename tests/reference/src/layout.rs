@@ -57,11 +57,21 @@ pub const ADDRESSES: u32 = 32;
 pub const KIND_DOCUMENT: u32 = 1;
 /// Kind of a connection that waits for a script's request.
 pub const KIND_SCRIPT: u32 = 2;
+/// Kind of a connection that waits for a picture.
+pub const KIND_PICTURE: u32 = 3;
 
+/// The map bit of the URL.
+pub const BIT_URL: u8 = 0x01;
+/// The map bit of the connection.
+pub const BIT_CONNECTION: u8 = 0x02;
 /// The map bit of cookies.
 pub const BIT_COOKIES: u8 = 0x04;
 /// The map bit of the script number, which is a request's handler.
 pub const BIT_SCRIPT: u8 = 0x08;
+/// The map bit of the value.
+pub const BIT_VALUE: u8 = 0x10;
+/// The map bit of the target URL.
+pub const BIT_TARGET: u8 = 0x20;
 /// Load.
 pub const MAP_LOAD: u8 = 0x03;
 /// Document response.
@@ -72,6 +82,10 @@ pub const MAP_DOCUMENT_COOKIES: u8 = 0x0F;
 pub const MAP_SCRIPT: u8 = 0x13;
 /// Script response with cookies.
 pub const MAP_SCRIPT_COOKIES: u8 = 0x17;
+/// Picture response. Its highest bit has no field.
+pub const MAP_PICTURE: u8 = 0x43;
+/// Picture response with cookies.
+pub const MAP_PICTURE_COOKIES: u8 = 0x47;
 /// Redirect.
 pub const MAP_REDIRECT: u8 = 0x23;
 /// Redirect with cookies.
@@ -80,6 +94,8 @@ pub const MAP_REDIRECT_COOKIES: u8 = 0x27;
 pub const MAP_DOCUMENT_REQUEST: u8 = 0x03;
 /// Request of a script, without cookies.
 pub const MAP_SCRIPT_REQUEST: u8 = 0x0B;
+/// Request for a picture, without cookies.
+pub const MAP_PICTURE_REQUEST: u8 = 0x43;
 
 /// End.
 pub const OP_END: u8 = 0;
@@ -95,6 +111,8 @@ pub const OP_WRITE: u8 = 4;
 pub const OP_SEND: u8 = 5;
 /// If register a is 0, skip b steps.
 pub const OP_SKIP: u8 = 6;
+/// Request a picture of URL a on connection b.
+pub const OP_PICTURE: u8 = 7;
 
 /// Walk input below this many bytes is short.
 pub const WALK_SHORTEST: usize = 4 * POLICY_WORDS + SCRIPTS_BYTES;

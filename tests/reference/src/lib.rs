@@ -11,6 +11,7 @@
 mod endpoint;
 mod fast;
 mod interpreter;
+mod kind;
 pub mod layout;
 mod monitor;
 pub mod numbers;
@@ -18,6 +19,7 @@ mod policy;
 mod record;
 mod request;
 mod request_record;
+mod request_step;
 mod seen;
 mod state;
 mod tally;

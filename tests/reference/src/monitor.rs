@@ -1,6 +1,7 @@
 //! One record after another: refused by number, or carried out.
 
 use crate::interpreter::Interpreter;
+use crate::kind::ConnectionKind;
 use crate::layout::*;
 use crate::numbers::*;
 use crate::policy::{ConnectionTag, Policy, Url};
@@ -113,22 +114,26 @@ fn check_match(record: &Record, state: &State) -> Result<(), Event> {
     if record.kind == Kind::Load {
         return Ok(());
     }
-    let pending = state.pending[record.connection];
-    match pending {
-        Pending::Free => return Err(Event::MatchFree),
-        Pending::Document { url } | Pending::Script { url, .. } if url != record.url => {
-            return Err(Event::MatchOtherUrl)
-        }
-        _ => {}
+    let pending = state.pending[record.connection].ok_or(Event::MatchFree)?;
+    if pending.url != record.url {
+        return Err(Event::MatchOtherUrl);
     }
-    match (record.kind, pending) {
-        (Kind::DocumentResponse { .. }, Pending::Script { .. }) => {
-            Err(Event::MatchDocumentOnScript)
-        }
-        (Kind::ScriptResponse { .. }, Pending::Document { .. }) => {
-            Err(Event::MatchScriptOnDocument)
-        }
+    match record.kind {
+        Kind::Response(kind) if kind != pending.kind => Err(match_clause(kind, pending.kind)),
         _ => Ok(()),
+    }
+}
+
+/// The response of one kind on a connection of another.
+fn match_clause(response: ConnectionKind, connection: ConnectionKind) -> Event {
+    use ConnectionKind::{Document, Picture, Script};
+    match (response, connection) {
+        (Document, Picture) => Event::MatchDocumentOnPicture,
+        (Document, _) => Event::MatchDocumentOnScript,
+        (Script, Picture) => Event::MatchScriptOnPicture,
+        (Script, _) => Event::MatchScriptOnDocument,
+        (Picture, Script) => Event::MatchPictureOnScript,
+        (Picture, _) => Event::MatchPictureOnDocument,
     }
 }
 
@@ -139,8 +144,8 @@ fn check_readers(record: &Record, policy: &Policy) -> Result<(), Event> {
     let tag = policy.connection(record.connection);
     match record.kind {
         Kind::Load if !tag.readers_fit(known_url(policy, record.url)) => Err(Event::ReadersLoad),
-        Kind::Redirect { target } => {
-            let target = known_url(policy, target);
+        Kind::Redirect => {
+            let target = known_url(policy, record.target);
             if !tag.readers.holds(target.event_endpoint()) {
                 return Err(Event::ReadersRedirectEvent);
             }
@@ -159,8 +164,8 @@ fn check_writers(record: &Record, policy: &Policy) -> Result<(), Event> {
     let tag = policy.connection(record.connection);
     match record.kind {
         Kind::Load if !tag.writers_fit(known_url(policy, record.url)) => Err(Event::WritersLoad),
-        Kind::Redirect { target } => {
-            let target = known_url(policy, target);
+        Kind::Redirect => {
+            let target = known_url(policy, record.target);
             if !tag.writers_fit(target) {
                 return Err(Event::WritersRedirectMessage);
             }
@@ -195,58 +200,66 @@ impl Accepted {
                 self.load(seen);
                 0
             }
-            Kind::Redirect { target } => {
-                self.redirect(target, seen);
+            Kind::Redirect => {
+                self.redirect(seen);
                 0
             }
-            Kind::DocumentResponse { script } => {
-                let page = self.record.url;
-                self.respond(scripts, script, page, 0, seen)
-            }
-            Kind::ScriptResponse { value } => match self.state.pending[self.record.connection] {
-                Pending::Script {
-                    origin, handler, ..
-                } => self.respond(scripts, handler, origin, value, seen),
-                _ => unreachable!("the kind was matched"),
-            },
+            Kind::Response(kind) => self.respond(kind, scripts, seen),
         }
     }
 
     /// Load: the connection is opened as a document, replacing whatever was
     /// pending; a request goes out.
     fn load(&mut self, seen: &mut Seen) {
-        let number = self.record.connection;
-        if self.state.pending[number] != Pending::Free {
+        let pending = &mut self.state.pending[self.record.connection];
+        if let Some(replaced) = pending {
             seen.note(Event::LoadReplaces);
+            if replaced.kind == ConnectionKind::Picture {
+                seen.note(Event::LoadReplacesPicture);
+            }
         }
-        let url = self.record.url;
-        self.state.pending[number] = Pending::Document { url };
+        let document = Pending::unhandled(ConnectionKind::Document, self.record.url);
+        *pending = Some(document);
         self.request(seen);
     }
 
     /// Redirect: cookies are stored for the old URL's host, the connection
     /// keeps kind, origin and handler and now holds the target; a request of
     /// its kind goes out.
-    fn redirect(&mut self, target: usize, seen: &mut Seen) {
+    fn redirect(&mut self, seen: &mut Seen) {
         self.store_cookies(seen);
         let pending = &mut self.state.pending[self.record.connection];
-        match pending {
-            Pending::Document { url } => {
-                *url = target;
-                seen.note(Event::RedirectDocument);
-            }
-            Pending::Script { url, .. } => {
-                *url = target;
-                seen.note(Event::RedirectScript);
-            }
-            Pending::Free => unreachable!("the connection was matched"),
-        }
-        self.request(seen);
+        let pending = pending.as_mut().expect("the connection was matched");
+        pending.url = self.record.target;
+        let kind = pending.kind;
+        let carries = self.request(seen);
+        seen.note(match (kind, carries) {
+            (ConnectionKind::Document, _) => Event::RedirectDocument,
+            (ConnectionKind::Script, _) => Event::RedirectScript,
+            (ConnectionKind::Picture, false) => Event::RedirectPicture,
+            (ConnectionKind::Picture, true) => Event::RedirectPictureCookies,
+        });
     }
 
-    /// Response: its cookies are stored, the connection is freed, then the
-    /// script runs with the value in register 0.
-    fn respond(
+    /// Response: its cookies are stored and the connection is freed. Then a
+    /// document's runs its script, with the connection's URL as page, and a
+    /// script's the handler, with the origin as page; a picture's runs nothing.
+    fn respond(&mut self, kind: ConnectionKind, scripts: &[u8], seen: &mut Seen) -> u32 {
+        self.store_cookies(seen);
+        let pending = self.state.pending[self.record.connection].take();
+        let pending = pending.expect("the connection was matched");
+        let Record { script, value, .. } = self.record;
+        match kind {
+            ConnectionKind::Document => self.run(scripts, script, pending.url, 0, seen),
+            ConnectionKind::Script => {
+                self.run(scripts, pending.handler, pending.origin, value, seen)
+            }
+            ConnectionKind::Picture => 0,
+        }
+    }
+
+    /// Runs a script for this page, with the value in register 0.
+    fn run(
         &mut self,
         scripts: &[u8],
         script: usize,
@@ -254,8 +267,6 @@ impl Accepted {
         value: u32,
         seen: &mut Seen,
     ) -> u32 {
-        self.store_cookies(seen);
-        self.state.pending[self.record.connection] = Pending::Free;
         let mut interpreter = Interpreter {
             policy: &self.policy,
             state: &mut self.state,
@@ -278,27 +289,39 @@ impl Accepted {
             seen.note(event);
             if event == Event::CookieStored {
                 self.state.store(host, key, value);
+                self.note_stored(seen);
             }
         }
     }
 
-    /// The request for what is pending on the record's connection.
-    fn request(&mut self, seen: &mut Seen) {
+    /// Sends the request for what is pending on the record's connection;
+    /// whether it carries cookies.
+    fn request(&mut self, seen: &mut Seen) -> bool {
         let number = self.record.connection;
-        write_request(&self.policy, &self.state, number, &mut self.output, seen);
+        let carried = write_request(&self.policy, &self.state, number, &mut self.output, seen);
+        !carried.is_empty()
     }
 
     fn note_kind(&self, seen: &mut Seen) {
+        use ConnectionKind::{Document, Picture, Script};
         let cookies = !self.record.cookies.is_empty();
         seen.note(match (self.record.kind, cookies) {
             (Kind::Load, _) => Event::Load,
-            (Kind::DocumentResponse { .. }, false) => Event::DocumentResponse,
-            (Kind::DocumentResponse { .. }, true) => Event::DocumentResponseCookies,
-            (Kind::ScriptResponse { .. }, false) => Event::ScriptResponse,
-            (Kind::ScriptResponse { .. }, true) => Event::ScriptResponseCookies,
-            (Kind::Redirect { .. }, false) => Event::Redirect,
-            (Kind::Redirect { .. }, true) => Event::RedirectCookies,
+            (Kind::Response(Document), false) => Event::DocumentResponse,
+            (Kind::Response(Document), true) => Event::DocumentResponseCookies,
+            (Kind::Response(Script), false) => Event::ScriptResponse,
+            (Kind::Response(Script), true) => Event::ScriptResponseCookies,
+            (Kind::Response(Picture), false) => Event::PictureResponse,
+            (Kind::Response(Picture), true) => Event::PictureResponseCookies,
+            (Kind::Redirect, false) => Event::Redirect,
+            (Kind::Redirect, true) => Event::RedirectCookies,
         });
+    }
+
+    fn note_stored(&self, seen: &mut Seen) {
+        if self.record.kind == Kind::Response(ConnectionKind::Picture) {
+            seen.note(Event::PictureResponseStores);
+        }
     }
 }
 

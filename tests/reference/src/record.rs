@@ -2,20 +2,22 @@
 
 use std::cmp::Ordering;
 
+use crate::kind::ConnectionKind;
 use crate::layout::*;
 use crate::policy::Policy;
 use crate::seen::Event;
 
-/// What kind of record, with the field that only this kind has.
+/// What kind of record.
 #[derive(Debug, Clone, Copy, PartialEq, Eq)]
 pub enum Kind {
     Load,
-    DocumentResponse { script: usize },
-    ScriptResponse { value: u32 },
-    Redirect { target: usize },
+    /// A response that this kind of connection awaits.
+    Response(ConnectionKind),
+    Redirect,
 }
 
-/// A record read from bytes; its numbers are not yet checked.
+/// A record read from bytes; its numbers are not yet checked. A field that
+/// its map does not carry is 0.
 #[derive(Debug, Clone, PartialEq, Eq)]
 pub struct Record {
     pub kind: Kind,
@@ -23,15 +25,20 @@ pub struct Record {
     pub connection: usize,
     /// Key and value, lowest key first.
     pub cookies: Vec<(usize, u32)>,
+    pub script: usize,
+    pub value: u32,
+    pub target: usize,
 }
 
 /// The maps of input records.
-pub const INPUT_MAPS: [u8; 7] = [
+pub const INPUT_MAPS: [u8; 9] = [
     MAP_LOAD,
     MAP_DOCUMENT,
     MAP_DOCUMENT_COOKIES,
     MAP_SCRIPT,
     MAP_SCRIPT_COOKIES,
+    MAP_PICTURE,
+    MAP_PICTURE_COOKIES,
     MAP_REDIRECT,
     MAP_REDIRECT_COOKIES,
 ];
@@ -97,75 +104,86 @@ fn key_map(bytes: &[u8]) -> Option<u8> {
 
 /// The length that the maps call for: one byte of map, then only the fields
 /// whose bit stands. Cookies are a key map byte, then four bytes for each
-/// standing bit.
+/// standing bit. Bit 6 has no field.
 fn length(map: u8, key_map: u8) -> usize {
     let cookies = 1 + 4 * key_map.count_ones() as usize;
-    let fields = [1, 1, cookies, 1, 4, 1];
+    let fields = [1, 1, cookies, 1, 4, 1, 0];
     let standing = (0..fields.len()).filter(|bit| map >> bit & 1 == 1);
     1 + standing.map(|bit| fields[bit]).sum::<usize>()
 }
 
-/// Takes fields off the front of the bytes.
-struct Fields<'a>(&'a [u8]);
+/// Takes fields off the front of the bytes; those whose bit does not stand
+/// in the map are not there.
+struct Fields<'a> {
+    map: u8,
+    bytes: &'a [u8],
+}
 
 impl Fields<'_> {
+    fn carries(&self, bit: u8) -> bool {
+        self.map & bit != 0
+    }
+
     fn byte(&mut self) -> u8 {
-        let (&first, rest) = self.0.split_first().expect("the length was checked");
-        self.0 = rest;
+        let (&first, rest) = self.bytes.split_first().expect("the length was checked");
+        self.bytes = rest;
         first
     }
 
-    fn number(&mut self) -> usize {
-        self.byte().into()
+    fn number(&mut self, bit: u8) -> usize {
+        match self.carries(bit) {
+            true => self.byte().into(),
+            false => 0,
+        }
     }
 
     /// Four bytes, most significant first.
-    fn value(&mut self) -> u32 {
+    fn word(&mut self) -> u32 {
         u32::from_be_bytes([self.byte(), self.byte(), self.byte(), self.byte()])
+    }
+
+    fn value(&mut self, bit: u8) -> u32 {
+        match self.carries(bit) {
+            true => self.word(),
+            false => 0,
+        }
     }
 
     /// A key map byte, then one 4-byte value for each standing bit, lowest
     /// key first.
-    fn cookies(&mut self) -> Vec<(usize, u32)> {
-        let map = self.byte();
+    fn cookies(&mut self, bit: u8) -> Vec<(usize, u32)> {
+        let map = match self.carries(bit) {
+            true => self.byte(),
+            false => 0,
+        };
         let keys = (0..KEYS).filter(|key| map >> key & 1 == 1);
-        keys.map(|key| (key, self.value())).collect()
+        keys.map(|key| (key, self.word())).collect()
     }
 }
 
-/// Reads a record whose maps and length were checked.
+/// Reads a record whose maps and length were checked: the fields whose bit
+/// stands, lowest bit first.
 pub fn read(bytes: &[u8]) -> Record {
-    let map = bytes[0];
-    let mut fields = Fields(&bytes[1..]);
-    let url = fields.number();
-    let connection = fields.number();
-    let cookies = match has_cookies(bytes) {
-        true => fields.cookies(),
-        false => Vec::new(),
+    let (&map, bytes) = bytes.split_first().expect("the length was checked");
+    let mut fields = Fields { map, bytes };
+    let record = Record {
+        kind: read_kind(map),
+        url: fields.number(BIT_URL),
+        connection: fields.number(BIT_CONNECTION),
+        cookies: fields.cookies(BIT_COOKIES),
+        script: fields.number(BIT_SCRIPT),
+        value: fields.value(BIT_VALUE),
+        target: fields.number(BIT_TARGET),
     };
-    let kind = read_kind(map, &mut fields);
-    assert!(fields.0.is_empty(), "the length was checked");
-    Record {
-        kind,
-        url,
-        connection,
-        cookies,
-    }
+    assert!(fields.bytes.is_empty(), "the length was checked");
+    record
 }
 
-/// The field that stands after the cookies.
-fn read_kind(map: u8, fields: &mut Fields) -> Kind {
-    match map {
-        MAP_DOCUMENT | MAP_DOCUMENT_COOKIES => Kind::DocumentResponse {
-            script: fields.number(),
-        },
-        MAP_SCRIPT | MAP_SCRIPT_COOKIES => Kind::ScriptResponse {
-            value: fields.value(),
-        },
-        MAP_REDIRECT | MAP_REDIRECT_COOKIES => Kind::Redirect {
-            target: fields.number(),
-        },
-        _ => Kind::Load,
+fn read_kind(map: u8) -> Kind {
+    match ConnectionKind::of_response(map) {
+        Some(kind) => Kind::Response(kind),
+        None if map == MAP_LOAD => Kind::Load,
+        None => Kind::Redirect,
     }
 }
 
@@ -181,10 +199,12 @@ pub fn check_numbers(record: &Record, policy: &Policy) -> Result<(), Event> {
     if record.connection >= CONNECTIONS {
         return Err(Event::NumberConnection);
     }
+    if record.script >= SCRIPTS {
+        return Err(Event::NumberScript);
+    }
     match record.kind {
-        Kind::Redirect { target } if target >= URLS => Err(Event::NumberTargetAbove),
-        Kind::Redirect { target } if policy.url(target).is_none() => Err(Event::NumberTargetEmpty),
-        Kind::DocumentResponse { script } if script >= SCRIPTS => Err(Event::NumberScript),
+        Kind::Redirect if record.target >= URLS => Err(Event::NumberTargetAbove),
+        Kind::Redirect if policy.url(record.target).is_none() => Err(Event::NumberTargetEmpty),
         _ => Ok(()),
     }
 }

@@ -3,7 +3,7 @@
 use crate::layout::*;
 use crate::policy::{CookieTag, Policy, Url};
 use crate::seen::{Event, Seen};
-use crate::state::{Pending, State};
+use crate::state::State;
 
 /// Appends the request for what is pending on the connection. Gives the
 /// cookies that it carries.
@@ -14,13 +14,10 @@ pub fn write_request(
     output: &mut Vec<u8>,
     seen: &mut Seen,
 ) -> Vec<(usize, u32)> {
-    let (map, number, handler) = match state.pending[connection] {
-        Pending::Document { url } => (MAP_DOCUMENT_REQUEST, url, None),
-        Pending::Script { url, handler, .. } => (MAP_SCRIPT_REQUEST, url, Some(handler)),
-        Pending::Free => unreachable!("a request has an open connection"),
-    };
-    let cookies = carried(policy, state, number, seen);
-    let numbers = [number as u8, connection as u8];
+    let pending = state.pending[connection].expect("a request has an open connection");
+    let cookies = carried(policy, state, pending.url, seen);
+    let map = pending.kind.request_map();
+    let numbers = [pending.url as u8, connection as u8];
     if cookies.is_empty() {
         seen.note(Event::RequestPlain);
         output.push(map);
@@ -31,7 +28,9 @@ pub fn write_request(
         output.extend(numbers);
         write_cookies(&cookies, output);
     }
-    output.extend(handler.map(|handler| handler as u8));
+    if map & BIT_SCRIPT != 0 {
+        output.push(pending.handler as u8);
+    }
     cookies
 }
 

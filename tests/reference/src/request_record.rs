@@ -1,21 +1,16 @@
 //! Request records, read back from bytes.
 
+use crate::kind::ConnectionKind;
 use crate::layout::*;
 use crate::record::INPUT_MAPS;
 use crate::tally_seen::TallyEvent;
-
-/// What asks for the URL.
-#[derive(Debug, Clone, Copy, PartialEq, Eq)]
-pub enum Kind {
-    Document,
-    Script,
-}
 
 /// A request read from bytes; its numbers are not yet checked. A field that
 /// its map does not carry is 0.
 #[derive(Debug, Clone, Copy, PartialEq, Eq)]
 pub struct Request {
-    pub kind: Kind,
+    /// The kind of connection that it opens.
+    pub kind: ConnectionKind,
     pub url: usize,
     pub connection: usize,
     /// The key map.
@@ -65,14 +60,13 @@ fn read_request(map: u8, fields: &[u8]) -> Result<(Request, &[u8]), TallyEvent> 
     Ok((request, fields.0))
 }
 
-/// The kind that has this map, with or without cookies.
-fn read_kind(map: u8) -> Result<Kind, TallyEvent> {
-    match map & !BIT_COOKIES {
-        MAP_DOCUMENT_REQUEST => Ok(Kind::Document),
-        MAP_SCRIPT_REQUEST => Ok(Kind::Script),
-        _ if INPUT_MAPS.contains(&map) => Err(TallyEvent::MapInput),
-        _ => Err(TallyEvent::MapUnknown),
-    }
+/// The kind whose request has this map, with or without cookies.
+fn read_kind(map: u8) -> Result<ConnectionKind, TallyEvent> {
+    let why = match INPUT_MAPS.contains(&map) {
+        true => TallyEvent::MapInput,
+        false => TallyEvent::MapUnknown,
+    };
+    ConnectionKind::of_request(map).ok_or(why)
 }
 
 /// Takes fields off the front of the bytes; the bytes may end before one.

@@ -1,21 +1,30 @@
 //! The state: cookies and what each connection waits for.
 
+use crate::kind::ConnectionKind;
 use crate::layout::*;
 use crate::policy::{ConnectionTag, Policy};
 use crate::seen::Event;
 
-/// What a connection waits for.
+/// What an open connection waits for. Only a script's request has an origin
+/// and a handler; of every other kind both are 0.
 #[derive(Debug, Clone, Copy, PartialEq, Eq)]
-pub enum Pending {
-    Free,
-    Document {
-        url: usize,
-    },
-    Script {
-        url: usize,
-        origin: usize,
-        handler: usize,
-    },
+pub struct Pending {
+    pub kind: ConnectionKind,
+    pub url: usize,
+    pub origin: usize,
+    pub handler: usize,
+}
+
+impl Pending {
+    /// What no script handles.
+    pub fn unhandled(kind: ConnectionKind, url: usize) -> Pending {
+        Pending {
+            kind,
+            url,
+            origin: 0,
+            handler: 0,
+        }
+    }
 }
 
 /// A sound state.
@@ -23,8 +32,8 @@ pub enum Pending {
 pub struct State {
     /// The value of each cookie that is present, by 8 host + key.
     cookies: Vec<Option<u32>>,
-    /// What is pending, by connection.
-    pub pending: Vec<Pending>,
+    /// What is pending, by connection; nothing where it is free.
+    pub pending: Vec<Option<Pending>>,
 }
 
 impl State {
@@ -88,27 +97,35 @@ fn read_host(values: &[u32], present: u32) -> Result<Vec<Option<u32>>, Event> {
 }
 
 /// The word is kind × 16,777,216 + origin × 65,536 + handler × 256 + URL.
-fn read_pending(word: u32, tag: &ConnectionTag, policy: &Policy) -> Result<Pending, Event> {
-    let [kind, origin, handler, url] = word.to_be_bytes().map(usize::from);
-    match kind as u32 {
-        0 if word == 0 => Ok(Pending::Free),
-        0 => Err(Event::StateFreeWord),
-        KIND_DOCUMENT => {
-            check_pending_url(url, tag, policy)?;
-            check_document(origin, handler)?;
-            Ok(Pending::Document { url })
-        }
-        KIND_SCRIPT => {
-            check_pending_url(url, tag, policy)?;
-            check_script(origin, handler, policy)?;
-            Ok(Pending::Script {
-                url,
-                origin,
-                handler,
-            })
-        }
-        _ => Err(Event::StateKind),
+fn read_pending(word: u32, tag: &ConnectionTag, policy: &Policy) -> Result<Option<Pending>, Event> {
+    let [number, origin, handler, url] = word.to_be_bytes().map(usize::from);
+    if number == 0 {
+        return match word {
+            0 => Ok(None),
+            _ => Err(Event::StateFreeWord),
+        };
     }
+    let pending = Pending {
+        kind: ConnectionKind::of_number(number as u32).ok_or(Event::StateKind)?,
+        url,
+        origin,
+        handler,
+    };
+    check_pending_url(url, tag, policy)?;
+    match pending.kind {
+        ConnectionKind::Document => check_unhandled(
+            pending,
+            Event::StateDocumentOrigin,
+            Event::StateDocumentHandler,
+        )?,
+        ConnectionKind::Picture => check_unhandled(
+            pending,
+            Event::StatePictureOrigin,
+            Event::StatePictureHandler,
+        )?,
+        ConnectionKind::Script => check_script(pending, policy)?,
+    }
+    Ok(Some(pending))
 }
 
 /// Its URL names a non-empty row that the connection fits.
@@ -126,41 +143,44 @@ fn check_pending_url(number: usize, tag: &ConnectionTag, policy: &Policy) -> Res
     Ok(())
 }
 
-/// Kind 1 is a document, origin and handler 0.
-fn check_document(origin: usize, handler: usize) -> Result<(), Event> {
-    if origin != 0 {
-        return Err(Event::StateDocumentOrigin);
+/// A document and a picture have origin and handler 0.
+fn check_unhandled(
+    pending: Pending,
+    origin_clause: Event,
+    handler_clause: Event,
+) -> Result<(), Event> {
+    if pending.origin != 0 {
+        return Err(origin_clause);
     }
-    if handler != 0 {
-        return Err(Event::StateDocumentHandler);
+    if pending.handler != 0 {
+        return Err(handler_clause);
     }
     Ok(())
 }
 
-/// Its handler is at most 15, and for kind 2 its origin names a non-empty
-/// row.
-fn check_script(origin: usize, handler: usize, policy: &Policy) -> Result<(), Event> {
-    if handler >= SCRIPTS {
+/// The handler of a script's request is at most 15, and its origin names a
+/// non-empty row.
+fn check_script(pending: Pending, policy: &Policy) -> Result<(), Event> {
+    if pending.handler >= SCRIPTS {
         return Err(Event::StateHandler);
     }
-    if origin >= URLS {
+    if pending.origin >= URLS {
         return Err(Event::StateOriginAbove);
     }
-    if policy.url(origin).is_none() {
+    if policy.url(pending.origin).is_none() {
         return Err(Event::StateOriginEmpty);
     }
     Ok(())
 }
 
-fn pending_word(pending: Pending) -> u32 {
-    let bytes = match pending {
-        Pending::Free => [0; 4],
-        Pending::Document { url } => [KIND_DOCUMENT as usize, 0, 0, url],
-        Pending::Script {
-            url,
-            origin,
-            handler,
-        } => [KIND_SCRIPT as usize, origin, handler, url],
-    };
-    u32::from_be_bytes(bytes.map(|part| part as u8))
+fn pending_word(pending: Option<Pending>) -> u32 {
+    let Some(pending) = pending else { return 0 };
+    let Pending {
+        kind,
+        url,
+        origin,
+        handler,
+    } = pending;
+    let parts = [kind.number() as usize, origin, handler, url];
+    u32::from_be_bytes(parts.map(|part| part as u8))
 }

@@ -39,10 +39,11 @@ fn count(mut list: &[u8]) -> Option<Tally> {
 fn take_parts(map: u8, rest: &[u8]) -> Option<(u32, &[u8])> {
     const DOCUMENT_COOKIES: u8 = MAP_DOCUMENT_REQUEST | BIT_COOKIES;
     const SCRIPT_COOKIES: u8 = MAP_SCRIPT_REQUEST | BIT_COOKIES;
+    const PICTURE_COOKIES: u8 = MAP_PICTURE_REQUEST | BIT_COOKIES;
     match map {
-        MAP_DOCUMENT_REQUEST => Some((0, rest)),
+        MAP_DOCUMENT_REQUEST | MAP_PICTURE_REQUEST => Some((0, rest)),
         MAP_SCRIPT_REQUEST => Some((0, take_handler(rest)?)),
-        DOCUMENT_COOKIES => take_cookies(rest),
+        DOCUMENT_COOKIES | PICTURE_COOKIES => take_cookies(rest),
         SCRIPT_COOKIES => {
             let (cookies, rest) = take_cookies(rest)?;
             Some((cookies, take_handler(rest)?))

@@ -1,6 +1,7 @@
 //! What can happen while a list of requests is tallied, and counts of it.
 
-use crate::request_record::{Kind, Request};
+use crate::kind::ConnectionKind;
+use crate::request_record::Request;
 use crate::seen::events;
 
 events! {
@@ -14,6 +15,8 @@ events! {
     DocumentCookies: "a document request with cookies is counted",
     Script: "a script's request without cookies is counted",
     ScriptCookies: "a script's request with cookies is counted",
+    Picture: "a picture request without cookies is counted",
+    PictureCookies: "a picture request with cookies is counted",
 
     TooLong: "13: the list has more than 65,536 bytes",
 
@@ -37,10 +40,12 @@ impl TallyEvent {
     /// The request is counted.
     pub fn counted(request: &Request) -> TallyEvent {
         match (request.kind, request.cookies()) {
-            (Kind::Document, 0) => TallyEvent::Document,
-            (Kind::Document, _) => TallyEvent::DocumentCookies,
-            (Kind::Script, 0) => TallyEvent::Script,
-            (Kind::Script, _) => TallyEvent::ScriptCookies,
+            (ConnectionKind::Document, 0) => TallyEvent::Document,
+            (ConnectionKind::Document, _) => TallyEvent::DocumentCookies,
+            (ConnectionKind::Script, 0) => TallyEvent::Script,
+            (ConnectionKind::Script, _) => TallyEvent::ScriptCookies,
+            (ConnectionKind::Picture, 0) => TallyEvent::Picture,
+            (ConnectionKind::Picture, _) => TallyEvent::PictureCookies,
         }
     }
 }

@@ -3,7 +3,7 @@
 mod common;
 
 use cases::policy::document;
-use common::{Feed, Session, FEEDS};
+use common::{for_each_feed, walk_input, Feed, Session, FEEDS};
 use reference::layout::{
     OUTPUT_BYTES, POLICY_WORDS, SCRIPTS_BYTES, STATE_CONNECTIONS, STATE_PRESENT, STATE_WORDS,
     WALK_LONGEST, WALK_SHORTEST,
@@ -12,13 +12,6 @@ use reference::Answer;
 
 const LOAD_0_ON_0: [u8; 3] = [3, 0, 0];
 const RESPONSE_WITH_7: [u8; 9] = [0x0F, 0, 0, 1, 0, 0, 0, 7, 0];
-
-fn for_each_feed(case: fn(Session)) {
-    for (name, feed) in FEEDS {
-        println!("{name}");
-        case(Session::new(feed));
-    }
-}
 
 fn after_a(session: &mut Session) {
     assert_eq!(session.accept(&LOAD_0_ON_0), (vec![3, 0, 0], 0));
@@ -106,7 +99,7 @@ fn j_malformed_records() {
 }
 
 /// Each input map with the bytes of its record, cookies aside.
-const INPUTS: [(u8, usize); 7] = [
+const INPUTS: [(u8, usize); 9] = [
     (0x03, 3),
     (0x0B, 4),
     (0x0F, 4),
@@ -114,8 +107,10 @@ const INPUTS: [(u8, usize); 7] = [
     (0x17, 7),
     (0x23, 4),
     (0x27, 4),
+    (0x43, 3),
+    (0x47, 3),
 ];
-const INPUTS_WITH_COOKIES: [u8; 3] = [0x0F, 0x17, 0x27];
+const INPUTS_WITH_COOKIES: [u8; 4] = [0x0F, 0x17, 0x27, 0x47];
 
 /// A record of this length that names URL 64, so that one of right map and
 /// length is refused with 6.
@@ -129,7 +124,7 @@ fn record_of(map: u8, key_map: u8, length: usize) -> Vec<u8> {
 fn a_map_that_no_input_has() {
     for_each_feed(|mut session| {
         let strange = |map: &u8| INPUTS.iter().all(|(input, _)| input != map);
-        assert_eq!((0..=255).filter(strange).count(), 249);
+        assert_eq!((0..=255).filter(strange).count(), 247);
         for map in (0..=255).filter(strange) {
             for length in [1, 2, 3, 4, 5, 7, 8, 9, 12, 40, 300] {
                 assert_eq!(session.refuse(&record_of(map, 0, length)), 10);
@@ -149,6 +144,8 @@ fn a_requests_map() {
         // The other maps of requests are inputs' too.
         assert_eq!(session.refuse(&[0x0B, 0, 0, 0]), 7);
         assert_eq!(session.refuse(&RESPONSE_WITH_7), 7);
+        assert_eq!(session.refuse(&[0x43, 0, 0]), 7);
+        assert_eq!(session.refuse(&[0x47, 0, 0, 1, 0, 0, 0, 7]), 7);
         assert_eq!(session.accept(&[3, 0, 0]).0, [3, 0, 0]);
     });
 }
@@ -160,6 +157,7 @@ fn a_key_map_of_zero() {
         assert_eq!(session.refuse(&[0x0F, 0, 0, 0, 0, 0]), 12);
         assert_eq!(session.refuse(&[0x17, 0, 0, 0, 1, 2, 3, 4]), 12);
         assert_eq!(session.refuse(&[0x27, 0, 0, 0, 0, 0, 0, 7, 2]), 12);
+        assert_eq!(session.refuse(&[0x47, 0, 0, 0]), 12);
         for map in INPUTS_WITH_COOKIES {
             for length in 4..=300 {
                 assert_eq!(session.refuse(&record_of(map, 0, length)), 12);
@@ -186,6 +184,7 @@ fn zero_where_no_key_map_stands() {
         assert_eq!(session.refuse(&[3, 0, 0, 0]), 11);
         assert_eq!(session.refuse(&[0x13, 0, 0, 0]), 11);
         assert_eq!(session.refuse(&[0x23, 0, 0, 0, 0]), 11);
+        assert_eq!(session.refuse(&[0x43, 0, 0, 0]), 11);
         after_a(&mut session);
         assert_eq!(session.accept(&[0x0B, 0, 0, 0]), (vec![], 1));
     });
@@ -284,13 +283,6 @@ fn a_short_output_buffer() {
             assert_eq!(feed_into(feed, record, OUTPUT_BYTES - 1), refused);
         }
     }
-}
-
-fn walk_input(records: &[u8]) -> Vec<u8> {
-    let words = document().into_iter().flat_map(u32::to_be_bytes);
-    let mut input: Vec<u8> = words.chain([0; SCRIPTS_BYTES]).collect();
-    input.extend(records);
-    input
 }
 
 const WALK_RECORDS: [u8; 23] = [

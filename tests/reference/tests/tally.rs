@@ -15,6 +15,10 @@ const SCRIPT: [u8; 4] = [0x0B, 0, 0, 0];
 const DOCUMENT_1: [u8; 8] = [0x07, 0, 0, 1, 0, 0, 0, 7];
 /// A script's request with one cookie, 9 bytes.
 const SCRIPT_1: [u8; 9] = [0x0F, 0, 0, 1, 0, 0, 0, 7, 0];
+/// A picture without cookies, 3 bytes.
+const PICTURE: [u8; 3] = [0x43, 0, 0];
+/// A picture with one cookie, 8 bytes.
+const PICTURE_1: [u8; 8] = [0x47, 0, 0, 1, 0, 0, 0, 7];
 
 /// A document with all eight cookies, 4 + 32 bytes.
 fn document_8() -> Vec<u8> {
@@ -26,8 +30,13 @@ fn script_8() -> Vec<u8> {
     [&[0x0F, 5, 6, 0xFF][..], &[0x03; 32], &[15]].concat()
 }
 
+/// A picture with all eight cookies, 4 + 32 bytes.
+fn picture_8() -> Vec<u8> {
+    [&[0x47, 5, 6, 0xFF][..], &[0x43; 32]].concat()
+}
+
 /// One record of each kind, without cookies, with one, and with all.
-fn every_kind() -> [Vec<u8>; 6] {
+fn every_kind() -> [Vec<u8>; 9] {
     [
         DOCUMENT.to_vec(),
         SCRIPT.to_vec(),
@@ -35,6 +44,9 @@ fn every_kind() -> [Vec<u8>; 6] {
         SCRIPT_1.to_vec(),
         document_8(),
         script_8(),
+        PICTURE.to_vec(),
+        PICTURE_1.to_vec(),
+        picture_8(),
     ]
 }
 
@@ -121,6 +133,7 @@ fn cookies_are_counted_singly() {
     prints(&three, "2 1 3\nall 1 3\n");
     prints(&document_8(), "5 1 8\nall 1 8\n");
     prints(&script_8(), "5 1 8\nall 1 8\n");
+    prints(&picture_8(), "5 1 8\nall 1 8\n");
     prints(&[0x07, 2, 0, 0x80, 1, 2, 3, 4], "2 1 1\nall 1 1\n");
     let twelve = [&three[..], &script_8(), &DOCUMENT_1].concat();
     prints(&twelve, "0 1 1\n2 1 3\n5 1 8\nall 3 12\n");
@@ -138,6 +151,23 @@ fn lines_rise() {
 fn only_urls_are_told_apart() {
     let list = [0x0B, 1, 2, 3, 0x0F, 1, 4, 0x10, 0, 0, 0, 0, 5, 0x03, 1, 6];
     prints(&list, "1 3 1\nall 3 1\n");
+}
+
+/// All three kinds, with cookies and without. URL 1 has a document and a picture with keys 1 and 2, URL 2 a document with key 7 and a script's
+/// request, URL 3 a script's request with key 0 and two pictures: 7 records, 2 + 1 + 1 = 4 cookies.
+#[test]
+fn three_kinds() {
+    let list = [
+        &[0x03, 1, 0][..],
+        &[0x47, 1, 31, 0x06, 0, 0, 0, 1, 0, 0, 0, 2],
+        &[0x43, 3, 16],
+        &[0x0B, 2, 1, 15],
+        &[0x0F, 3, 2, 0x01, 0x43, 0x43, 0x43, 0x43, 0],
+        &[0x43, 3, 0],
+        &[0x07, 2, 3, 0x80, 0, 0, 0, 0],
+    ]
+    .concat();
+    prints(&list, "1 2 2\n2 2 1\n3 3 1\nall 7 4\n");
 }
 
 /// 64 URLs, URL u with u + 1 documents: 64 · 65 / 2 = 2,080 records, 6,240 bytes.
@@ -188,14 +218,17 @@ fn why_a_cut_list_is_bad() {
     bad(&SCRIPT[..3], TallyEvent::CutHandler);
     bad(&DOCUMENT_1[..3], TallyEvent::CutKeys);
     bad(&SCRIPT_1[..3], TallyEvent::CutKeys);
+    bad(&PICTURE_1[..3], TallyEvent::CutKeys);
     for length in 4..8 {
         bad(&DOCUMENT_1[..length], TallyEvent::CutValues);
         bad(&SCRIPT_1[..length], TallyEvent::CutValues);
+        bad(&PICTURE_1[..length], TallyEvent::CutValues);
     }
     bad(&SCRIPT_1[..8], TallyEvent::CutHandler);
     for length in 4..36 {
         bad(&document_8()[..length], TallyEvent::CutValues);
         bad(&script_8()[..length], TallyEvent::CutValues);
+        bad(&picture_8()[..length], TallyEvent::CutValues);
     }
     bad(&script_8()[..36], TallyEvent::CutHandler);
 }
@@ -216,7 +249,7 @@ fn a_last_record_one_byte_short() {
 /// The cookie bit asks for a key map that is not zero, whatever follows.
 #[test]
 fn a_key_map_of_zero() {
-    for map in [0x07, 0x0F] {
+    for map in [0x07, 0x0F, 0x47] {
         bad(&[map, 0, 0, 0], TallyEvent::NoKeys);
         bad(&[map, 0, 0, 0, 0], TallyEvent::NoKeys);
         bad_anywhere(&[map, 0, 0, 0]);
@@ -226,9 +259,10 @@ fn a_key_map_of_zero() {
     // Where no key map stands, zero is a handler or nothing at all.
     prints(&SCRIPT, "0 1 0\nall 1 0\n");
     bad(&[3, 0, 0, 0], TallyEvent::MapUnknown);
+    bad(&[0x43, 0, 0, 0], TallyEvent::MapUnknown);
 }
 
-/// Whole input records, as document 01 has them. Maps 03, 0B and 0F are requests' too.
+/// Whole input records, as document 01 has them. Maps 03, 0B, 0F, 43 and 47 are requests' too.
 #[test]
 fn an_input_is_no_request() {
     let inputs: [&[u8]; 4] = [
@@ -243,17 +277,17 @@ fn an_input_is_no_request() {
         bad_anywhere(input);
     }
     prints(
-        &[&DOCUMENT[..], &SCRIPT, &SCRIPT_1].concat(),
-        "0 3 1\nall 3 1\n",
+        &[&DOCUMENT[..], &SCRIPT, &SCRIPT_1, &PICTURE, &PICTURE_1].concat(),
+        "0 5 2\nall 5 2\n",
     );
 }
 
-/// Of the 256 maps four are requests': 03, 07, 0B and 0F.
+/// Of the 256 maps six are requests': 03, 07, 0B, 0F, 43 and 47.
 #[test]
 fn every_map() {
     let fields = [0, 0, 1, 0, 0, 0, 7, 0, 0, 0, 0, 0];
     for map in 0..=255 {
-        if matches!(map, 0x03 | 0x07 | 0x0B | 0x0F) {
+        if matches!(map, 0x03 | 0x07 | 0x0B | 0x0F | 0x43 | 0x47) {
             continue;
         }
         let record = [&[map][..], &fields].concat();
@@ -300,18 +334,25 @@ fn number_at(record: &[u8], place: usize, limit: u8, why: TallyEvent) {
     }
 }
 
-/// Nothing is asked of a document's handler, for it has none: its last byte is a connection up to 31, or the end of any value.
+/// Nothing is asked of a document's handler or a picture's, for it has none: its last byte is a connection up to 31, or the end of any
+/// value. What follows is the next record.
 #[test]
-fn a_document_has_no_handler() {
-    prints(&[3, 0, 16], "0 1 0\nall 1 0\n");
-    prints(&[7, 0, 16, 1, 0, 0, 0, 0xFF], "0 1 1\nall 1 1\n");
+fn documents_and_pictures_have_no_handler() {
+    for (plain, with_cookies) in [(0x03, 0x07), (0x43, 0x47)] {
+        prints(&[plain, 0, 16], "0 1 0\nall 1 0\n");
+        let one = [with_cookies, 0, 16, 1, 0, 0, 0, 0xFF];
+        prints(&one, "0 1 1\nall 1 1\n");
+        bad(&[plain, 0, 0, 1], TallyEvent::MapUnknown);
+        bad(&[&one[..], &[1]].concat(), TallyEvent::MapUnknown);
+    }
 }
 
-/// 21,845 documents have 65,535 bytes. 21,844 and a script's request have 65,532 + 4 = 65,536, as many records; 21,843 and two
+/// 21,845 documents, or as many pictures, have 65,535 bytes. 21,844 and a script's request have 65,532 + 4 = 65,536, as many records; 21,843 and two
 /// script's requests have 65,529 + 8 = 65,537.
 #[test]
 fn the_longest_list_of_short_requests() {
     prints(&DOCUMENT.repeat(21_845), "0 21845 0\nall 21845 0\n");
+    prints(&PICTURE.repeat(21_845), "0 21845 0\nall 21845 0\n");
     let list = [DOCUMENT.repeat(21_844), SCRIPT.to_vec()].concat();
     assert_eq!(list.len(), LIST_BYTES);
     prints(&list, "0 21845 0\nall 21845 0\n");
@@ -414,7 +455,8 @@ impl Made {
     /// any.
     fn fill(length: usize, random: &Random) -> Made {
         let mut made = Made::new();
-        let any = || (random.pick(&[3, 7, 0x0B, 0x0F]), random.byte().max(1));
+        let maps = [3, 7, 0x0B, 0x0F, 0x43, 0x47];
+        let any = || (random.pick(&maps), random.byte().max(1));
         let (usual_map, usual_keys) = any();
         let style = random.below(4);
         while made.list.len() + 37 <= length {
@@ -443,7 +485,8 @@ impl Made {
 
 /// One byte changed, dropped or inserted, a bit flipped, or the end cut off.
 fn damage(list: &mut Vec<u8>, random: &Random) {
-    let byte = random.pick(&[0, 3, 7, 0x0B, 0x0F, 0x13, 16, 32, 64, 0xFF, random.byte()]);
+    let likely = random.pick(&[0, 3, 7, 0x0B, 0x0F, 0x13, 0x43, 0x47, 16, 32, 64, 0xFF]);
+    let byte = random.pick(&[likely, likely, likely, random.byte()]);
     let place = random.below(list.len() + 1);
     match random.below(5) {
         0 if place < list.len() => list[place] = byte,
@@ -462,7 +505,7 @@ fn junk(random: &Random) -> Vec<u8> {
     random.fill_bytes(&mut list);
     if random.one_in(2) {
         for byte in &mut list {
-            *byte = random.pick(&[0, 1, 3, 3, 3, 7, 0x0B, 0x0F, *byte]);
+            *byte = random.pick(&[0, 1, 3, 3, 3, 7, 0x0B, 0x0F, 0x43, 0x47, *byte]);
         }
     }
     list
@@ -524,6 +567,8 @@ fn every_single_damage() {
     damage_everywhere(&SCRIPT.repeat(12));
     damage_everywhere(&DOCUMENT_1.repeat(9));
     damage_everywhere(&SCRIPT_1.repeat(9));
+    damage_everywhere(&PICTURE.repeat(25));
+    damage_everywhere(&PICTURE_1.repeat(9));
     damage_everywhere(&script_8().repeat(6));
 }
 

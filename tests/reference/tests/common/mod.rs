@@ -13,6 +13,14 @@ pub const FEEDS: [(&str, Feed); 2] = [
     ("feed_fast", reference::feed_fast),
 ];
 
+/// A case for each feeding function, under policy P from the empty state.
+pub fn for_each_feed(case: fn(Session)) {
+    for (name, feed) in FEEDS {
+        println!("{name}");
+        case(Session::new(feed));
+    }
+}
+
 /// A run of records from the empty state.
 pub struct Session {
     pub feed: Feed,
@@ -67,4 +75,12 @@ impl Session {
         assert_ne!(number, 0);
         number
     }
+}
+
+/// What walk reads: policy P, a zero script table and these records, each after its length byte.
+pub fn walk_input(records: &[u8]) -> Vec<u8> {
+    let words = document().into_iter().flat_map(u32::to_be_bytes);
+    let mut input: Vec<u8> = words.chain([0; SCRIPTS_BYTES]).collect();
+    input.extend(records);
+    input
 }

@@ -75,6 +75,10 @@ fn a_wrong_number_is_told() {
     assert_told(numbering(0, longer), "number");
     let no_key = |list: &[u8]| matches!(list, [0x07, _, _, 0, ..]);
     assert_told(numbering(0, no_key), "number");
+    let picture_without_key = |list: &[u8]| matches!(list, [0x47, _, _, 0, ..]);
+    assert_told(numbering(0, picture_without_key), "number");
+    let picture = |list: &[u8]| matches!(list, [0x43 | 0x47, ..]);
+    assert_told(numbering(LIST_BAD, picture), "number");
     let redirect = |list: &[u8]| matches!(list, [0x23 | 0x27, ..]);
     assert_told(numbering(0, redirect), "number");
 }

@@ -245,13 +245,16 @@ fn places(all: &[usize], random: &Random) -> Vec<usize> {
     }
 }
 
+/// Maps, and numbers that are in range or just out of it.
+const LIKELY: [u8; 10] = [0, 1, 3, 3, 7, 0x0b, 0x0f, 16, 0x43, 0x47];
+
 /// Of all values, or of few, which make requests now and then.
 fn random_bytes(random: &Random) -> Vec<u8> {
     let mut bytes = vec![0; any_length(random)];
     match random.below(3) {
         0 => random.fill_bytes(&mut bytes),
         1 => bytes.fill_with(|| random.pick(&MAPS)),
-        _ => bytes.fill_with(|| random.pick(&[0, 1, 3, 3, 7, 11, 15, 16])),
+        _ => bytes.fill_with(|| random.pick(&LIKELY)),
     }
     bytes
 }

@@ -1,7 +1,7 @@
 //! Random inputs for walk, by kind.
 
 use cases::damage::damage_policy;
-use cases::record::{make_accepted, make_record};
+use cases::record::{make_accepted, make_record, INPUT_MAPS};
 use cases::{Random, Session, Setting};
 use reference::layout::{
     POLICY_WORDS, RECORD_BYTES, WALK_LONGEST as LONGEST, WALK_SHORTEST as RECORDS_AT,
@@ -185,8 +185,8 @@ fn lengths(random: &Random) -> Vec<u8> {
     let mut input = Builder::random(random);
     for length in 0..=255 {
         let mut record = random_bytes(length, random);
-        if let Some(map) = record.first_mut() {
-            *map = random.pick(&[0x03, 0x0b, 0x0f, 0x13, 0x17, 0x23, 0x27, *map]);
+        if let (Some(map), false) = (record.first_mut(), random.one_in(8)) {
+            *map = random.pick(&INPUT_MAPS);
         }
         input.push(&record);
     }
