@@ -100,7 +100,7 @@ pub fn load(
     }
 }
 
-// A response, once its cookies are stored, after which a script runs: its connection is freed before.
+// A response after which a script runs, once its cookies are stored. The connection is freed first, so that the script may open it.
 fn respond(
     policy: &[u32],
     scripts: &[u8],
