@@ -10,11 +10,7 @@ use Rattle.records.specs.Codec.{readRefusals, readRefusal, decoded}
 use Rattle.machine.specs.Policy.{wellFormed}
 use Rattle.machine.specs.Session.{sound, Effects}
 use Rattle.machine.specs.Scripts.{tableBytes, stopped}
-use Rattle.machine.specs.Machine.{Event, eventOf, named, awaited, readersAllow, writersAllow, nameUnknown, outputRoom, lentRefusals, judgements, eventRefusals, refusals, refusal, perform, outcome}
-
--- the event of a record's bytes
-abbrev pub eventIn : List ℕ → Event
-eventIn bytes = eventOf (decoded Input bytes .fields)
+use Rattle.machine.specs.Machine.{Event, eventIn, named, awaited, readersAllow, writersAllow, nameUnknown, outputRoom, lentRefusals, judgements, eventRefusals, refusals, refusal, perform, outcome}
 
 pub record Passed (p scripts s bytes out : List ℕ) : Type 0 where
   pub room : outputRoom ≤ length out

@@ -12,10 +12,10 @@ use Rattle.records.specs.Codec.{Run as Reading}
 use Rattle.machine.specs.Policy.{wellFormed}
 use Rattle.machine.specs.Session.{sound, Effects}
 use Rattle.machine.specs.Scripts.{tableBytes, stopped}
-use Rattle.machine.specs.Machine.{Event, named, outputRoom, outcome, feed}
+use Rattle.machine.specs.Machine.{Event, eventIn, named, outputRoom, outcome, feed}
 use Rattle.machine.specs.Guarantees.{areWords}
 use Rattle.machine.specs.Secrecy.{Item, Feedable, feedAll}
-use Rattle.machine.proofs.Accepted.{eventIn, react, reacts}
+use Rattle.machine.proofs.Accepted.{react, reacts}
 use Rattle.machine.proofs.Events.{event-keys}
 use Rattle.machine.proofs.Soundness.{sound-kept}
 use Rattle.machine.proofs.WordSizes.{words-kept}

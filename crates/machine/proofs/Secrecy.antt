@@ -13,7 +13,7 @@ use Rattle.records.specs.Codec.{Run as Reading}
 use Rattle.machine.specs.Policy.{urlMessage, urlEvent, wellFormed}
 use Rattle.machine.specs.Session.{stateWords, emptyState, Cookie}
 use Rattle.machine.specs.Scripts.{tableBytes, stopped}
-use Rattle.machine.specs.Machine.{Event, Load, Arrival, plainMap, cookiesOf, eventOf, named, refusal, outcome, feed}
+use Rattle.machine.specs.Machine.{Event, Load, Arrival, plainMap, cookiesOf, eventIn, named, refusal, outcome, feed}
 use Rattle.machine.specs.Guarantees.{areWords}
 use Rattle.machine.specs.Secrecy.{Item, Feedable, feedAll, run, shownCookies, shown, shownRecord, shownRecords, remaining, observationOf, observations, SameView, Secrecy, NothingUnread}
 use Rattle.machine.proofs.Accepted.{all-passed}
@@ -57,9 +57,8 @@ module _ (set : ℕ) (p : List ℕ) where
   unfolding seenOfItems seenOfRecord shownRecords shownRecord
   same-records [] = refl
   same-records (i ∷ is) =
-      let read = decoded Input (i .bytes) in
-      let e = eventOf (read .fields) in
-      ap₂ _++_ (ap (λ (l : List Event). branch (eqb (read .number) accepted && named p e) l []) (same-shown e)) (same-records is)
+      let e = eventIn (i .bytes) in
+      ap₂ _++_ (ap (λ (l : List Event). branch (eqb (decoded Input (i .bytes) .number) accepted && named p e) l []) (same-shown e)) (same-records is)
 
 -- ---- runs in which every record is refused
 

@@ -2,9 +2,9 @@
 use Rattle.prelude.proofs.Kit.{T}
 use Rattle.machine.specs.Session.{emptyState, sound, Effects}
 use Rattle.machine.specs.Scripts.{stopped}
-use Rattle.machine.specs.Machine.{feed, perform}
+use Rattle.machine.specs.Machine.{eventIn, feed, perform}
 use Rattle.machine.specs.Guarantees.{SoundKept, EmptySound}
-use Rattle.machine.proofs.Accepted.{eventIn, either-way}
+use Rattle.machine.proofs.Accepted.{either-way}
 use Rattle.machine.proofs.SoundStates.{of-sound, empty-good}
 use Rattle.machine.proofs.Kept.{accepted-good}
 

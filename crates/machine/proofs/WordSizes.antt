@@ -15,11 +15,11 @@ use Rattle.records.proofs.Carriable.{decoded-carriable}
 use Rattle.machine.specs.Policy.{connections}
 use Rattle.machine.specs.Session.{presenceAt, connectionsAt, free, kindOf, originOf, handlerOf, urlOf, connectionSound, request, Effects}
 use Rattle.machine.specs.Scripts.{stepLimit, stopped, scriptAt, scriptBytes}
-use Rattle.machine.specs.Machine.{feed, perform}
+use Rattle.machine.specs.Machine.{eventIn, feed, perform}
 use Rattle.machine.specs.Guarantees.{areWords, WordsKept}
 use Rattle.machine.proofs.Lists.{Each, each-take, each-drop, each-at, each-of}
 use Rattle.machine.proofs.ConnectionWords.{below-kind}
-use Rattle.machine.proofs.Accepted.{eventIn, Passed, either-way}
+use Rattle.machine.proofs.Accepted.{Passed, either-way}
 use Rattle.machine.proofs.SoundStates.{Sound, openFields, kind-bytes}
 use Rattle.machine.proofs.Kept.{Good, TableValues, accepted-good}
 

@@ -51,6 +51,10 @@ arrivedOf r =
 unfoldable pub eventOf : Record → Event
 eventOf r = branch (eqb (plainMap (r .map)) load) (Load (r .url) (r .connection)) (Arrival (r .url) (r .connection) (cookiesOf r) (arrivedOf r))
 
+-- what a record's bytes say
+abbrev pub eventIn : List ℕ → Event
+eventIn bytes = eventOf (decoded Input bytes .fields)
+
 -- ---- the tests of an event: each refusal applies where its test fails
 
 -- 6: every number that the record carries names something
@@ -152,7 +156,7 @@ eventRefusals p s event = refuse nameUnknown (not (named p event)) ∷ judgement
 -- all of them in their order: decoding's own, of a malformed record, stand between the two
 abbrev pub refusals : List ℕ → List ℕ → List ℕ → List ℕ → List ℕ → List (Refusal ℕ)
 refusals p scripts s bytes out =
-    lentRefusals p scripts s out ++ (readRefusals Input bytes ++ eventRefusals p s (eventOf (decoded Input bytes .fields)))
+    lentRefusals p scripts s out ++ (readRefusals Input bytes ++ eventRefusals p s (eventIn bytes))
 
 -- the first that applies
 unfoldable pub refusal : List ℕ → List ℕ → List ℕ → List ℕ → List ℕ → ℕ
@@ -182,7 +186,7 @@ pub record Outcome : Type 0 where
 unfoldable pub outcome : List ℕ → List ℕ → List ℕ → List ℕ → List ℕ → Outcome
 outcome p scripts s bytes out =
     let number = refusal p scripts s bytes out in
-    let done = perform p scripts s (eventOf (decoded Input bytes .fields)) in
+    let done = perform p scripts s (eventIn bytes) in
     record { number = number; effects = branch (eqb number accepted) done (stopped s) }
 
 -- ---- feed

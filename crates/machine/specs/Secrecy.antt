@@ -17,7 +17,7 @@ use Rattle.records.specs.Codec.{decoded, readRun}
 use Rattle.machine.specs.Policy.{hostKeys, connections, cookieIndex, urlReaders, cookieReaders, connectionReaders}
 use Rattle.machine.specs.Policy.{urlHost, urlMessage, urlEvent, wellFormed}
 use Rattle.machine.specs.Session.{emptyState, cookieValue, present, connectionWord, Cookie}
-use Rattle.machine.specs.Machine.{Event, Load, Arrival, plainMap, cookiesOf, eventOf, named, outputRoom, feed}
+use Rattle.machine.specs.Machine.{Event, Load, Arrival, plainMap, cookiesOf, eventIn, named, outputRoom, feed}
 
 -- ---- a run (how document 01 feeds a list)
 
@@ -68,9 +68,8 @@ shown set p (Arrival u n cs what) = branch (meets (connectionReaders p n) set) (
 -- a malformed record is struck, and one that 6 fits
 unfoldable pub shownRecord : ℕ → List ℕ → List ℕ → List Event
 shownRecord set p bytes =
-    let read = decoded Input bytes in
-    let event = eventOf (read .fields) in
-    branch (eqb (read .number) accepted && named p event) (shown set p event) []
+    let event = eventIn bytes in
+    branch (eqb (decoded Input bytes .number) accepted && named p event) (shown set p event) []
 
 -- what is left of a list, in order
 unfoldable pub shownRecords : ℕ → List ℕ → List Item → List Event

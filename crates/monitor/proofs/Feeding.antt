@@ -12,9 +12,9 @@ use Rattle.records.specs.Layout.{longest}
 use Rattle.records.specs.Codec.{readRefusals, readRefusal, decoded, writeRun}
 use Rattle.records.proofs.Runs.{all-written}
 use Rattle.machine.specs.Scripts.{stopped}
-use Rattle.machine.specs.Machine.{outputRoom, lentRefusals, eventRefusals, refusals, refusal, perform, outcome, Fed, feed}
+use Rattle.machine.specs.Machine.{eventIn, outputRoom, lentRefusals, eventRefusals, refusals, refusal, perform, outcome, Fed, feed}
 use Rattle.machine.specs.Guarantees.{refusedWith, areWords}
-use Rattle.machine.proofs.Accepted.{eventIn, in-parts}
+use Rattle.machine.proofs.Accepted.{in-parts}
 use Rattle.machine.proofs.Sending.{sent-fits}
 use Rattle.session.proofs.Outputs.{written-run}
 use Rattle.monitor.specs.Answers.{done, byNumber, reaction}
