@@ -57,9 +57,13 @@ within-and s t l =
     (λ e. holds-subset (holds s) (holds t) (λ a k h. of-bit t a k (and-bits s t (eqb→eq (bitAnd s t) s e) a (bit-of s a h))))
     (λ w. rw (bits-and endpoints s t l (λ a k h. bit-of t a (subset-member (holds s) (holds t) (holds-below s) w a (of-bit s a k h)))) (eqb-refl s))
 
--- only the empty set is within the empty set, which the code has as 0
+-- only the empty set, which the code has as 0, is within the empty set
 pub within-none : (s : ℕ) → s < 2 ^ 32 → within s 0 ≡ eqb s 0
 within-none s l = sym (within-and s 0 l) ∙ rw (and-zero-r s) (same (eqb 0 s) (eqb s 0) (λ t. rw (eqb→eq 0 s t) (eqb-refl s)) (λ t. rw (eqb→eq s 0 t) tt))
+
+pub empty-word : empty ≡ 0
+unfolding empty
+empty-word = refl
 
 -- no endpoint is in the empty set, and each is in the set of all
 pub empty-holds : (a : ℕ) → T (holds empty a) → ⊥

@@ -18,16 +18,16 @@ pub record Passed (p scripts s bytes out : List ℕ) : Type 0 where
   pub table : T (eqb (length scripts) tableBytes)
   pub state : T (sound p s)
   pub read : decoded Input bytes .number ≡ accepted
-  pub names : T (named p (eventIn bytes))
-  pub waits : T (awaited s (eventIn bytes))
-  pub readers : T (readersAllow p (eventIn bytes))
-  pub writers : T (writersAllow p (eventIn bytes))
+  pub names : T (named p (eventIn p bytes))
+  pub waits : T (awaited s (eventIn p bytes))
+  pub readers : T (readersAllow p (eventIn p bytes))
+  pub writers : T (writersAllow p (eventIn p bytes))
 
 -- refusal by refusal
 pub all-passed : (p scripts s bytes out : List ℕ) → refusal p scripts s bytes out ≡ accepted → Passed p scripts s bytes out
 unfolding refusal decoded readRefusal
 all-passed p scripts s bytes out e =
-    let event = eventIn bytes in
+    let event = eventIn p bytes in
     let (room, (policy, (table, (state, (map, (keys, (size, (names, (waits, (readers, (writers, _))))))))))) = none-applied (refusals p scripts s bytes out) tt e in
     record {
       room = nltb→le (length out) outputRoom (not-T (ltb (length out) outputRoom) (λ t. subst T room t));
@@ -44,11 +44,11 @@ all-passed p scripts s bytes out e =
 -- the refusals part after part
 pub in-parts : (p scripts s bytes out : List ℕ)
     → refusal p scripts s bytes out
-    ≡ firstOf (lentRefusals p scripts s out) (firstOf (readRefusals Input bytes) (firstOf (eventRefusals p s (eventIn bytes)) accepted))
+    ≡ firstOf (lentRefusals p scripts s out) (firstOf (readRefusals Input bytes) (firstOf (eventRefusals p s (eventIn p bytes)) accepted))
 unfolding refusal
 in-parts p scripts s bytes out =
-    in-a-row accepted (lentRefusals p scripts s out) (readRefusals Input bytes ++ eventRefusals p s (eventIn bytes))
-    ∙ ap (firstOf (lentRefusals p scripts s out)) (in-a-row accepted (readRefusals Input bytes) (eventRefusals p s (eventIn bytes)))
+    in-a-row accepted (lentRefusals p scripts s out) (readRefusals Input bytes ++ eventRefusals p s (eventIn p bytes))
+    ∙ ap (firstOf (lentRefusals p scripts s out)) (in-a-row accepted (readRefusals Input bytes) (eventRefusals p s (eventIn p bytes)))
 
 -- nothing judges an event that names something amiss
 unfoldable pub allowed : List ℕ → List ℕ → Event → Bool
@@ -65,10 +65,10 @@ unfoldable pub react : List ℕ → List ℕ → List ℕ → Event → Effects
 react p scripts s e = branch (allowed p s e) (perform p scripts s e) (stopped s)
 
 accepted-is : (p scripts s bytes out : List ℕ) → NoneOf (lentRefusals p scripts s out)
-    → eqb (refusal p scripts s bytes out) accepted ≡ eqb (decoded Input bytes .number) accepted && (named p (eventIn bytes) && allowed p s (eventIn bytes))
+    → eqb (refusal p scripts s bytes out) accepted ≡ eqb (decoded Input bytes .number) accepted && (named p (eventIn p bytes) && allowed p s (eventIn p bytes))
 unfolding decoded readRefusal allowed
 accepted-is p scripts s bytes out none =
-    let e = eventIn bytes in
+    let e = eventIn p bytes in
     ap (λ (n : ℕ). eqb n accepted)
     (in-parts p scripts s bytes out ∙ none-applies (firstOf (readRefusals Input bytes) (firstOf (eventRefusals p s e) accepted)) (lentRefusals p scripts s out) none)
     ∙ accepted-on (readRefusals Input bytes) (firstOf (eventRefusals p s e) accepted) tt
@@ -76,10 +76,10 @@ accepted-is p scripts s bytes out none =
 
 pub reacts : (p scripts s bytes out : List ℕ) → outputRoom ≤ length out → T (wellFormed p) → T (eqb (length scripts) tableBytes) → T (sound p s)
     → outcome p scripts s bytes out .effects
-    ≡ branch (eqb (decoded Input bytes .number) accepted && named p (eventIn bytes)) (react p scripts s (eventIn bytes)) (stopped s)
+    ≡ branch (eqb (decoded Input bytes .number) accepted && named p (eventIn p bytes)) (react p scripts s (eventIn p bytes)) (stopped s)
 unfolding outcome react
 reacts p scripts s bytes out a b c d =
-    let e = eventIn bytes in
+    let e = eventIn p bytes in
     let none : NoneOf (lentRefusals p scripts s out) =
     (le-ltb (length out) outputRoom a, (ap not (is-true (wellFormed p) b), (ap not (is-true (eqb (length scripts) tableBytes) c), (ap not (is-true (sound p s) d), tt)))) in
     ap (λ (t : Bool). branch t (perform p scripts s e) (stopped s)) (accepted-is p scripts s bytes out none)
@@ -87,7 +87,7 @@ reacts p scripts s bytes out a b c d =
 
 -- what holds of a record that is performed, and where nothing is done, holds of every call
 pub either-way : (P : Effects → Type 0) (p scripts s bytes out : List ℕ)
-    → (Passed p scripts s bytes out → P (perform p scripts s (eventIn bytes))) → P (stopped s) → P (outcome p scripts s bytes out .effects)
+    → (Passed p scripts s bytes out → P (perform p scripts s (eventIn p bytes))) → P (stopped s) → P (outcome p scripts s bytes out .effects)
 unfolding outcome
 either-way P p scripts s bytes out f g =
     one P _ (λ t. f (all-passed p scripts s bytes out (eqb→eq (refusal p scripts s bytes out) accepted t))) (λ _. g)

@@ -1,11 +1,12 @@
 -- The worked cases hold: they are computed.
 use Rattle.machine.specs.Cases.{with, emptyRows, policyWith, stepBytes, stepsBytes, scriptsWith, stateWith, sameNumbers, gives, rightFrom, allRight, CasesAToJ}
 use Rattle.machine.specs.MoreCases.{MoreCases}
+use Rattle.machine.specs.HttpsCases.{eachGives, HttpsCases}
 use Rattle.machine.proofs.Computing.{machine}
 
 -- what the cases are told with, opened too
 unfoldable pub cases : Unit {0}
-unfolding machine with emptyRows policyWith stepBytes stepsBytes scriptsWith stateWith sameNumbers gives rightFrom allRight
+unfolding machine with emptyRows policyWith stepBytes stepsBytes scriptsWith stateWith sameNumbers gives rightFrom allRight eachGives
 cases = tt
 
 pub cases-a-to-j : CasesAToJ
@@ -15,3 +16,7 @@ cases-a-to-j = tt
 pub more-cases : MoreCases
 unfolding cases
 more-cases = tt
+
+pub https-cases : HttpsCases
+unfolding cases
+https-cases = tt

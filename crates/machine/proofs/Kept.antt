@@ -1,6 +1,6 @@
 -- What the machine keeps through stores, requests, script steps and events: a sound state, Q of each cookie value and register, and R of each
 -- request that is sent; and how many requests there are at most. Sound states and the sizes of words are two instances.
-use Rattle.prelude.proofs.Kit.{ℕ, _≤_, _<_, _+_, suc, _^_, zero, _*_, zero-le, _%_, arith, _&&_, List, _∷_, [], T}
+use Rattle.prelude.proofs.Kit.{ℕ, _≤_, _<_, _+_, suc, _^_, zero, _*_, zero-le, _%_, arith, _&&_, List, _∷_, [], refl, T}
 use Rattle.prelude.proofs.Kit.{eqb→eq, ltb→lt, length, getD, set, length-append}
 use lib.Dec.{lit≤}
 use Rattle.prelude.proofs.Choices.{parts, joined, one}
@@ -9,20 +9,24 @@ use Rattle.records.specs.declared.Direction.the-variants.{Input}
 use Rattle.records.specs.declared.Record.{Record}
 use Rattle.records.specs.Layout.{keyNumbers}
 use Rattle.records.specs.Codec.{decoded}
-use Rattle.machine.specs.Policy.{hostKeys, connections, cookieIndex, urlHost, isUrl, isConnection, fits, maySend, loadReaders, loadWriters, redirectReaders, redirectWriters}
+use Rattle.machine.specs.Policy.{hostKeys, connections, cookieIndex, urlHost, isUrl, upgraded, isConnection, fits, maySend, loadReaders, loadWriters, redirectReaders, redirectWriters}
 use Rattle.machine.specs.Session.{presenceAt, cookieValue, connectionWord, free, documentKind, scriptKind, pictureKind, packed, kindOf, originOf, handlerOf, urlOf, kindSound, urlSound, Cookie, setCookie, storeCookie, storeCookies, setConnection, request, Effects, send}
 use Rattle.machine.specs.Scripts.{stepLimit, scriptAt, Step, end, constant, add, readCookie, writeCookie, sendRequest, skipIfZero, sendPicture, stepOf, stepAt, Progress, register, isScript, ended, goesOn, goesOnAfter, requested, step, stopped, followed, runFrom, startingWith, runScript}
 use Rattle.machine.specs.Machine.{Arrived, DocumentResponse, ScriptResponse, PictureResponse, Redirect, Event, Load, Arrival, eventIn, carriesNames, named, pending, ofKind, awaited, ofTarget, readersAllow, writersAllow, receive, perform}
 use Rattle.machine.proofs.Lists.{Each, each-append, each-set, each-at}
 use Rattle.machine.proofs.Accepted.{Passed}
-use Rattle.machine.proofs.Events.{KeysBelow, EventKeys, event-keys, EventCookies, event-cookies, ArrivedValue, EventValue, event-value}
+use Rattle.machine.proofs.Events.{KeysBelow, EventKeys, event-keys, EventCookies, event-cookies, ArrivedValue, EventValue, event-value, Asked, ArrivedAsks, EventAsks, event-asks}
 use Rattle.machine.proofs.SoundStates.{Sound, sound-of, cookie-kept, connection-kept, connection-freed, openFields, word-fields, script-fields, fields-word, fields-moved}
 
--- Q and R that are kept: Q of 0 and of a sum, R of a request on an open connection
+-- Q and R that are kept: Q of 0 and of a sum, R of a request on an open connection, to a URL that is asked for
 pub record Keeps (p : List ℕ) (Q : ℕ → Type 0) (R : Record → Type 0) : Type 0 where
   pub none : Q 0
   pub wrapped : (x : ℕ) → Q (x % 2 ^ 32)
-  pub asked : (s : List ℕ) (n k o h u : ℕ) → Sound p Q s → n < connections → T (openFields p n k o h u) → R (request p s n k h u)
+  pub asked : (s : List ℕ) (n k o h u : ℕ) → Sound p Q s → n < connections → T (openFields p n k o h u) → Asked p u → R (request p s n k h u)
+
+-- for Q or R of which nothing is asked
+abbrev pub Any : {A : Type 0} → A → Type 0
+Any x = Unit {0}
 
 -- the effects of at most so many requests
 abbrev pub Good : List ℕ → (ℕ → Type 0) → (Record → Type 0) → ℕ → Effects → Type 0
@@ -64,10 +68,11 @@ module _ (p : List ℕ) (Q : ℕ → Type 0) (R : Record → Type 0) (laws : Kee
       store-kept n h l cs (keys .1) (values .1) (storeCookie p n h c s)
       (one (Sound p Q) _ (λ _. cookie-kept p Q s good h (c .key) (c .value) l (keys .0) (values .0)) (λ _. good))
 
-  send-kept : (n k o h u most : ℕ) → 1 ≤ most → n < connections → T (openFields p n k o h u) → (s : List ℕ) → Sound p Q s → Good p Q R most (send p n k o h u s)
+  send-kept : (n k o h u most : ℕ) → 1 ≤ most → n < connections → T (openFields p n k o h u) → Asked p u → (s : List ℕ) → Sound p Q s
+      → Good p Q R most (send p n k o h u s)
   unfolding send
-  send-kept n k o h u most lm l t s good =
-      (connection-kept p Q s good n (packed k o h u) l (fields-word p n k o h u t), (laws .asked s n k o h u good l t, tt), lm)
+  send-kept n k o h u most lm l t a s good =
+      (connection-kept p Q s good n (packed k o h u) l (fields-word p n k o h u t), (laws .asked s n k o h u good l t a, tt), lm)
 
   stops : (most : ℕ) (s : List ℕ) → Sound p Q s → Good p Q R most (stopped s)
   unfolding stopped
@@ -85,18 +90,18 @@ module _ (p : List ℕ) (Q : ℕ → Type 0) (R : Record → Type 0) (laws : Kee
       goes = (all, good, tt, zero-le)
 
       -- a request of a kind whose origin and handler are right where the handler is a script
-      sends : (k o h u m : ℕ) → (T (isScript h) → T (kindSound p k o h)) → T (isUrl p u && (isConnection m && (isScript h && maySend p n u m)))
-          → Going p Q R (goesOnAfter (suc i) rs (send p m k o h u s))
+      sends : (k o h u m : ℕ) → (T (isScript h) → T (kindSound p k o h)) → Asked p u
+          → T (isUrl p u && (isConnection m && (isScript h && maySend p n u m))) → Going p Q R (goesOnAfter (suc i) rs (send p m k o h u s))
       unfolding goesOnAfter urlSound maySend
-      sends k o h u m right t =
+      sends k o h u m right a t =
           let kind = right (search parts) in
           let fit : T (fits p m u) = search parts depth 7 in
-          let e = send-kept m k o h u 1 (lit≤ tt) (ltb→lt m connections (search parts)) (search joined) s good in
+          let e = send-kept m k o h u 1 (lit≤ tt) (ltb→lt m connections (search parts)) (search joined) a s good in
           (all, e .0, e .1, e .2)
 
-      requests : (k o h u m : ℕ) → (T (isScript h) → T (kindSound p k o h)) → Going p Q R (requested p n k o h u m i rs s)
+      requests : (k o h u m : ℕ) → (T (isScript h) → T (kindSound p k o h)) → Going p Q R (requested p n k o h (upgraded p u) m i rs s)
       unfolding requested
-      requests k o h u m right = one (Going p Q R) _ (sends k o h u m right) (λ _. ends)
+      requests k o h u m right = one (Going p Q R) _ (sends k o h (upgraded p u) m right (u, refl)) (λ _. ends)
 
     step-kept : (st : Step) → StepValue Q st → (i : ℕ) (rs s : List ℕ) → Each Q rs → Sound p Q s → Going p Q R (step p n page st i rs s)
     unfolding step kindSound
@@ -153,32 +158,32 @@ module _ (p : List ℕ) (Q : ℕ → Type 0) (R : Record → Type 0) (laws : Kee
 
     receive-kept : (u n : ℕ) (cs : List Cookie) (what : Arrived) → T (isUrl p u) → n < connections → T (carriesNames p what) → T (pending s n u)
         → T (ofKind (kindOf (connectionWord s n)) what) → T (ofTarget (redirectReaders p n) what) → T (ofTarget (redirectWriters p n) what)
-        → KeysBelow cs → Each (λ (c : Cookie). Q (c .value)) cs → ArrivedValue Q what
+        → KeysBelow cs → Each (λ (c : Cookie). Q (c .value)) cs → ArrivedValue Q what → ArrivedAsks p what
         → Good p Q R stepLimit (receive p scripts n (connectionWord s n) what (storeCookies p n (urlHost p u) cs s))
     unfolding receive pending redirectReaders redirectWriters urlSound fits
-    receive-kept u n cs (DocumentResponse x) url l names waits kind r w keys values q =
+    receive-kept u n cs (DocumentResponse x) url l names waits kind r w keys values q a =
         let page = urlOf (connectionWord s n) in
         response-kept u n cs page x 0 l keys values (rw (eqb→eq page u (search parts)) url) (laws .none)
-    receive-kept u n cs (ScriptResponse v) url l names waits kind r w keys values q =
+    receive-kept u n cs (ScriptResponse v) url l names waits kind r w keys values q a =
         let word = connectionWord s n in
         let t = word-fields p n word (good .words n l) (search parts) in
         response-kept u n cs (originOf word) (handlerOf word) v l keys values (script-fields p (kindOf word) (originOf word) (handlerOf word) (search parts) kind .0) q
-    receive-kept u n cs PictureResponse url l names waits kind r w keys values q =
+    receive-kept u n cs PictureResponse url l names waits kind r w keys values q a =
         let stored = storeCookies p n (urlHost p u) cs s in
         stops stepLimit (setConnection n free stored) (connection-freed p Q stored (store-kept n (urlHost p u) (omega arith) cs keys values s good) n l)
-    receive-kept u n cs (Redirect v) url l names waits kind r w keys values q =
+    receive-kept u n cs (Redirect v) url l names waits kind r w keys values q a =
         let word = connectionWord s n in
         let t = word-fields p n word (good .words n l) (search parts) in
-        send-kept n (kindOf word) (originOf word) (handlerOf word) v stepLimit (lit≤ tt) l (fields-moved p n (kindOf word) (originOf word) (handlerOf word) (urlOf word) t v (search joined))
+        send-kept n (kindOf word) (originOf word) (handlerOf word) v stepLimit (lit≤ tt) l (fields-moved p n (kindOf word) (originOf word) (handlerOf word) (urlOf word) t v (search joined)) a
         (storeCookies p n (urlHost p u) cs s) (store-kept n (urlHost p u) (omega arith) cs keys values s good)
 
     perform-kept : (e : Event) → T (named p e) → T (awaited s e) → T (readersAllow p e) → T (writersAllow p e)
-        → EventKeys e → EventCookies (λ (c : Cookie). Q (c .value)) e → EventValue Q e → Good p Q R stepLimit (perform p scripts s e)
+        → EventKeys e → EventCookies (λ (c : Cookie). Q (c .value)) e → EventValue Q e → EventAsks p e → Good p Q R stepLimit (perform p scripts s e)
     unfolding perform named awaited readersAllow writersAllow loadReaders loadWriters kindSound urlSound fits
-    perform-kept (Load u n) a b c d keys values q =
-        send-kept n documentKind 0 0 u stepLimit (lit≤ tt) (ltb→lt n connections (search parts)) (search joined) s good
-    perform-kept (Arrival u n cs what) a b c d keys values q =
-        receive-kept u n cs what (search parts) (ltb→lt n connections (search parts)) (search parts) (search parts) (search parts) c d keys values q
+    perform-kept (Load u n) a b c d keys values q asks =
+        send-kept n documentKind 0 0 u stepLimit (lit≤ tt) (ltb→lt n connections (search parts)) (search joined) asks s good
+    perform-kept (Arrival u n cs what) a b c d keys values q asks =
+        receive-kept u n cs what (search parts) (ltb→lt n connections (search parts)) (search parts) (search parts) (search parts) c d keys values q asks
 
 -- ---- a record that is accepted, with Q of the state's and the record's values
 module _ (p : List ℕ) (Q : ℕ → Type 0) (R : Record → Type 0) (laws : Keeps p Q R) (scripts s bytes out : List ℕ) where
@@ -186,7 +191,7 @@ module _ (p : List ℕ) (Q : ℕ → Type 0) (R : Record → Type 0) (laws : Kee
   fields = decoded Input bytes .fields
 
   pub accepted-good : TableValues Q scripts → ((c : ℕ) → c < presenceAt → Q (cookieValue s c)) → Each (λ k. Q (getD (fields .cookies) k 0)) keyNumbers → Q (fields .value)
-      → Passed p scripts s bytes out → Good p Q R stepLimit (perform p scripts s (eventIn bytes))
+      → Passed p scripts s bytes out → Good p Q R stepLimit (perform p scripts s (eventIn p bytes))
   accepted-good table values brought value ok =
-      perform-kept p Q R laws scripts table s (sound-of p Q s (ok .state) values) (eventIn bytes) (ok .names) (ok .waits) (ok .readers) (ok .writers)
-      (event-keys fields) (event-cookies fields (λ (c : Cookie). Q (c .value)) brought) (event-value fields Q value)
+      perform-kept p Q R laws scripts table s (sound-of p Q s (ok .state) values) (eventIn p bytes) (ok .names) (ok .waits) (ok .readers) (ok .writers)
+      (event-keys p fields) (event-cookies p fields (λ (c : Cookie). Q (c .value)) brought) (event-value p fields Q value) (event-asks p fields)

@@ -7,6 +7,7 @@ pub mod Accepted
 pub mod SoundStates
 pub mod Kept
 pub mod Soundness
+pub mod Upgrading
 pub mod WordSizes
 pub mod Refusals
 pub mod Sending

@@ -1,7 +1,7 @@
 -- What holds of each element of a list.
-use Rattle.prelude.proofs.Kit.{ℕ, _<_, suc, zero, zero-lt-suc, Bool, List, _∷_, [], _++_, map, length, take, drop, getD, set}
+use Rattle.prelude.proofs.Kit.{ℕ, _<_, suc, zero, zero-lt-suc, Bool, List, _∷_, [], _++_, map, T, and-i, length, take, drop, getD, set}
 use Prim.Native.Nat.{suc-le-suc}
-use Rattle.prelude.specs.Choice.{keep}
+use Rattle.prelude.specs.Choice.{keep, every}
 use Rattle.prelude.proofs.Choices.{one}
 
 abbrev pub Each : {A : Type 0} → (A → Type 0) → List A → Type 0
@@ -46,3 +46,9 @@ module _ {A : Type 0} (P : A → Type 0) where
   pub each-of : (d : A) (xs : List A) → ((i : ℕ) → i < length xs → P (getD xs i d)) → Each P xs
   each-of d [] f = tt
   each-of d (x ∷ xs) f = (f 0 (zero-lt-suc (length xs)), each-of d xs (λ i l. f (suc i) (suc-le-suc l)))
+
+-- what each element passes, all pass
+pub each-every : {A : Type 0} (test : A → Bool) (xs : List A) → Each (λ x. T (test x)) xs → T (every test xs)
+unfolding every
+each-every test [] all = tt
+each-every test (x ∷ xs) all = and-i (test x) (every test xs) (all .0) (each-every test xs (all .1))

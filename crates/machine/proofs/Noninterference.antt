@@ -36,7 +36,7 @@ reactAll p scripts s (e ∷ es) =
 -- what an observer sees of a record, and of a list of them
 unfoldable pub seenOfRecord : List ℕ → Observer → List ℕ → List Event
 seenOfRecord p v bytes =
-    let e = eventIn bytes in
+    let e = eventIn p bytes in
     branch (eqb (decoded Input bytes .number) accepted && named p e) (branch (seesEvent v e) (seenOf p v e ∷ []) []) []
 
 unfoldable pub seenOfItems : List ℕ → Observer → List Item → List Event
@@ -76,14 +76,14 @@ module _ (p scripts : List ℕ) (v : Observer) (laws : Laws p v) (good : T (well
       → Alike v (outcome p scripts s bytes out .effects) (reactAll p scripts t (seenOfRecord p v bytes))
   unfolding seenOfRecord
   record-alike s t bytes out room ok a =
-      let e = eventIn bytes in
+      let e = eventIn p bytes in
       let test = eqb (decoded Input bytes .number) accepted && named p e in
       subst (λ (x : Effects). Alike v x (reactAll p scripts t (branch test (branch (seesEvent v e) (seenOf p v e ∷ []) []) [])))
       (sym (reacts p scripts s bytes out room good table ok))
       (two (λ (x : Effects) (l : List Event). Alike v x (reactAll p scripts t l)) test test refl
       (λ passed.
       let names = and-r (eqb (decoded Input bytes .number) accepted) (named p e) passed in
-      let keys = event-keys (decoded Input bytes .fields) in
+      let keys = event-keys p (decoded Input bytes .fields) in
       one (λ (l : List Event). Alike v (react p scripts s e) (reactAll p scripts t l)) (seesEvent v e)
       (λ seen. one-event s t e (react-alike p v laws scripts e s t names keys seen a))
       (λ hidden. no-event s t (react p scripts s e) a (react-quiet p v laws scripts e s names keys hidden (a .left))))

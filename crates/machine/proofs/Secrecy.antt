@@ -57,7 +57,7 @@ module _ (set : ℕ) (p : List ℕ) where
   unfolding seenOfItems seenOfRecord shownRecords shownRecord
   same-records [] = refl
   same-records (i ∷ is) =
-      let e = eventIn (i .bytes) in
+      let e = eventIn p (i .bytes) in
       ap₂ _++_ (ap (λ (l : List Event). branch (eqb (decoded Input (i .bytes) .number) accepted && named p e) l []) (same-shown e)) (same-records is)
 
 -- ---- runs in which every record is refused

@@ -1,14 +1,15 @@
 -- The examples beside demand 3 hold: they are computed.
 use Rattle.machine.specs.Cases.{with, emptyRows, policyWith, stepBytes, stepsBytes, scriptsWith, sameNumbers}
 use Rattle.machine.specs.Secrecy.{feedAll, run, shownCookies, shown, shownRecord, shownRecords, remaining, observationOf, observations}
-use Rattle.machine.specs.SecrecyExamples.{hiddenUnseen, hiddenPictureUnseen, toldApart, saysSomething, saysSomethingOfPictures, SaysSomething, PicturesSaySomething}
+use Rattle.machine.specs.SecrecyExamples.{hiddenUnseen, hiddenPictureUnseen, hiddenThenShown, shownThenHidden, toldApart}
+use Rattle.machine.specs.SecrecyExamples.{saysSomething, saysSomethingOfPictures, saysSomethingOfUpgrading, SaysSomething, PicturesSaySomething, UpgradingSaysSomething}
 use Rattle.machine.proofs.Computing.{machine}
 
 -- what the examples are told with, opened too
 unfoldable pub examples : Unit {0}
 unfolding machine with emptyRows policyWith stepBytes stepsBytes scriptsWith sameNumbers
     feedAll run shownCookies shown shownRecord shownRecords remaining observationOf observations
-    hiddenUnseen hiddenPictureUnseen toldApart saysSomething saysSomethingOfPictures
+    hiddenUnseen hiddenPictureUnseen hiddenThenShown shownThenHidden toldApart saysSomething saysSomethingOfPictures saysSomethingOfUpgrading
 examples = tt
 
 pub says-something : SaysSomething
@@ -18,3 +19,7 @@ says-something = tt
 pub pictures-say-something : PicturesSaySomething
 unfolding examples
 pictures-say-something = tt
+
+pub upgrading-says-something : UpgradingSaysSomething
+unfolding examples
+upgrading-says-something = tt

@@ -4,7 +4,7 @@ use Rattle.prelude.proofs.Kit.{ℕ, _<_, _+_, suc, zero, arith, _&&_, Bool, not
 use Rattle.prelude.proofs.Kit.{T, eqb, ltb, ltb→lt, T-not, not-T, length, set}
 use Rattle.prelude.specs.Choice.{keep}
 use Rattle.prelude.proofs.Choices.{parts, either, and-alike, one, two}
-use Rattle.machine.specs.Policy.{hostKeys, connections, cookieIndex, urlHost, isUrl, isConnection, mayRead, mayWrite, maySend}
+use Rattle.machine.specs.Policy.{hostKeys, connections, cookieIndex, urlHost, isUrl, upgraded, isConnection, mayRead, mayWrite, maySend}
 use Rattle.machine.specs.Session.{stateWords, scriptKind, pictureKind, cookieValue, present, packed, Effects, send}
 use Rattle.machine.specs.Scripts.{scriptSteps, stepLimit, Step, end, constant, add, readCookie, writeCookie, sendRequest, skipIfZero, sendPicture, stepAt, scriptAt, Progress, register, isRegister, isKey, isScript, ended, goesOn, goesOnAfter, requested, step, stopped, followed, runFrom, startingWith, runScript}
 use Rattle.machine.proofs.Observer.{Observer, Laws, Agree, observationsBy, observations-append, agree-refl, agree-sym, agree-trans, unseen-cookie, unseen-connection, same-cookie, same-connection}
@@ -128,12 +128,12 @@ module _ (p : List ℕ) (v : Observer) (laws : Laws p v) where
         (λ _. goes (suc i) rs rs _ _ refl (same-cookie v s t a h k (register rs r) (omega arith) (ltb→lt k hostKeys (search parts))))
         (λ _. goes (suc i) rs rs s t refl a))
         (λ _. ends rs s t a)
-    lock seen (sendRequest u m x) i rs s t a = requests scriptKind page x u m i rs s t a
+    lock seen (sendRequest u m x) i rs s t a = requests scriptKind page x (upgraded p u) m i rs s t a
     lock seen (skipIfZero r k) i rs s t a =
         two Lock (isRegister r) (isRegister r) refl
         (λ _. two Lock (eqb (register rs r) 0) (eqb (register rs r) 0) refl (λ _. goes (suc i + k) rs rs s t refl a) (λ _. goes (suc i) rs rs s t refl a))
         (λ _. ends rs s t a)
-    lock seen (sendPicture u m) i rs s t a = requests pictureKind 0 0 u m i rs s t a
+    lock seen (sendPicture u m) i rs s t a = requests pictureKind 0 0 (upgraded p u) m i rs s t a
 
     -- quiet where it does not
     module _ (hidden : T (not (v .seesScript n))) (s : List ℕ) (whole : length s ≡ stateWords) where
@@ -175,12 +175,12 @@ module _ (p : List ℕ) (v : Observer) (laws : Laws p v) where
           (λ m. goes-quiet (suc i) rs _ (unseen-cookie v s whole h k (register rs r) (omega arith) (ltb→lt k hostKeys (search parts)) (unseen (v .seesCookie c) (v .seesScript n) (laws .writes n c m) hidden)))
           (λ _. goes-quiet (suc i) rs s (agree-refl v s whole)))
           (λ _. ends-quiet rs)
-      quiet (sendRequest u m x) i rs = requests-quiet scriptKind page x u m i rs
+      quiet (sendRequest u m x) i rs = requests-quiet scriptKind page x (upgraded p u) m i rs
       quiet (skipIfZero r k) i rs =
           one (QuietStep s) (isRegister r)
           (λ _. one (QuietStep s) (eqb (register rs r) 0) (λ _. goes-quiet (suc i + k) rs s (agree-refl v s whole)) (λ _. goes-quiet (suc i) rs s (agree-refl v s whole)))
           (λ _. ends-quiet rs)
-      quiet (sendPicture u m) i rs = requests-quiet pictureKind 0 0 u m i rs
+      quiet (sendPicture u m) i rs = requests-quiet pictureKind 0 0 (upgraded p u) m i rs
 
     -- ---- a run
 

@@ -21,7 +21,7 @@ use Rattle.machine.proofs.Lists.{Each, each-take, each-drop, each-at, e
 use Rattle.machine.proofs.ConnectionWords.{below-kind}
 use Rattle.machine.proofs.Accepted.{Passed, either-way}
 use Rattle.machine.proofs.SoundStates.{Sound, openFields, kind-bytes}
-use Rattle.machine.proofs.Kept.{Good, TableValues, accepted-good}
+use Rattle.machine.proofs.Kept.{Good, Any, TableValues, accepted-good}
 
 abbrev pub Word : ℕ → Type 0
 Word w = w < 2 ^ 32
@@ -97,12 +97,12 @@ record-words bytes bs e =
 module _ (p : List ℕ) (R : Record → Type 0)
     (asked : (s : List ℕ) (n k o h u : ℕ) → Sound p Word s → n < connections → T (openFields p n k o h u) → R (request p s n k h u)) where
   pub words-good : (scripts s bytes out : List ℕ) → T (areBytes scripts) → T (areWords s) → T (areBytes bytes) → Passed p scripts s bytes out
-      → Good p Word R stepLimit (perform p scripts s (eventIn bytes))
+      → Good p Word R stepLimit (perform p scripts s (eventIn p bytes))
   unfolding values
   words-good scripts s bytes out ts ws bs ok =
       let vs = values (decoded Input bytes .fields) in
       let all = record-words bytes bs (ok .read) in
-      accepted-good p Word R (record { none = omega arith; wrapped = λ x. omega arith; asked = asked }) scripts s bytes out
+      accepted-good p Word R (record { none = omega arith; wrapped = λ x. omega arith; asked = λ s n k o h u g l t a. asked s n k o h u g l t }) scripts s bytes out
       (table-words scripts ts) (λ c l. each-at Word 0 (omega arith) s (words-each s ws) c)
       (each-take Word 8 (drop 3 vs) (each-drop Word 3 vs all)) (each-at Word 0 (omega arith) vs all 12) ok
 
@@ -110,5 +110,5 @@ pub words-kept : WordsKept
 unfolding feed stopped
 words-kept p scripts s bytes out ts ws bs =
     either-way (λ (e : Effects). T (areWords (e .state))) p scripts s bytes out
-    (λ ok. state-words p (perform p scripts s (eventIn bytes) .state) (words-good p (λ r. Unit {0}) (λ s n k o h u g l t. tt) scripts s bytes out ts ws bs ok .0))
+    (λ ok. state-words p (perform p scripts s (eventIn p bytes) .state) (words-good p Any (λ s n k o h u g l t. tt) scripts s bytes out ts ws bs ok .0))
     ws

@@ -5,7 +5,7 @@ use mathlib.Core.List.{List, [], _∷_, _++_}
 use lib.Dec.{T, eqb}
 use lib.ListN.{length, drop, replicate}
 use lib.Seq.{sets}
-use Rattle.machine.specs.Policy.{urlRows, policyWords, cookieLabelsAt, connectionLabelsAt, cookieIndex, noAddress}
+use Rattle.machine.specs.Policy.{urlRows, cookieLabelsAt, connectionLabelsAt, httpsHostsAt, partnersAt, cookieIndex, noAddress, noPartner}
 use Rattle.machine.specs.Session.{emptyState, presenceAt, connectionsAt, packed, documentKind, scriptKind, pictureKind}
 use Rattle.machine.specs.Scripts.{scriptBytes, tableBytes, Step, end, constant}
 use Rattle.machine.specs.Scripts.{add, readCookie, writeCookie, sendRequest, skipIfZero, sendPicture}
@@ -25,7 +25,7 @@ unfoldable pub with : List Words → List ℕ → List ℕ
 with [] blank = blank
 with (w ∷ ws) blank = sets (with ws blank) (w .at) (w .words)
 
--- policies: address, readers, writers; readers, writers; readers, script readers, writers
+-- policies: address, readers, writers; readers, writers; readers, script readers, writers; the hosts that are always https; a URL's partner
 abbrev pub url : ℕ → ℕ → ℕ → ℕ → Words
 url u a r w = words (3 * u) (a ∷ r ∷ w ∷ [])
 
@@ -35,12 +35,18 @@ cookieLabel h k r w = words (cookieLabelsAt + 2 * cookieIndex h k) (r ∷ w ∷ 
 abbrev pub connection : ℕ → ℕ → ℕ → ℕ → Words
 connection n r s w = words (connectionLabelsAt + 3 * n) (r ∷ s ∷ w ∷ [])
 
+abbrev pub alwaysHttps : ℕ → Words
+alwaysHttps hosts = words httpsHostsAt (hosts ∷ [])
+
+abbrev pub partner : ℕ → ℕ → Words
+partner u v = words (partnersAt + u) (v ∷ [])
+
 unfoldable pub emptyRows : ℕ → List ℕ
 emptyRows zero = []
 emptyRows (suc n) = noAddress ∷ 0 ∷ 0 ∷ emptyRows n
 
 unfoldable pub policyWith : List Words → List ℕ
-policyWith ws = with ws (emptyRows urlRows ++ replicate (policyWords - cookieLabelsAt) 0)
+policyWith ws = with ws (emptyRows urlRows ++ (replicate (partnersAt - cookieLabelsAt) 0 ++ replicate urlRows noPartner))
 
 -- script tables: steps from the first on; what is not named is 0
 unfoldable pub scriptsWith : List Words → List ℕ
@@ -112,6 +118,18 @@ call fed number steps sent state = record { fed = fed; number = number; steps = 
 -- a record that is refused leaves the state as it was
 abbrev pub refused : List ℕ → ℕ → List Words → Call
 refused fed number state = call fed number 0 [] state
+
+-- one call with room enough: scripts and state to start from, the record, and its number, steps, bytes sent and the words of the state after it
+abbrev pub oneCall : List Words → List Words → List ℕ → ℕ → ℕ → List ℕ → List Words → Case
+oneCall scripts start fed number steps sent state = record {
+  scripts = scriptsWith scripts;
+  room = outputRoom;
+  start = start;
+  calls = call fed number steps sent state ∷ [];
+}
+
+abbrev pub oneRefused : List Words → List ℕ → ℕ → Case
+oneRefused start fed number = oneCall [] start fed number 0 [] start
 
 -- the buffer given, filled with a byte that stands in no request of a case
 abbrev pub bufferOf : ℕ → List ℕ

@@ -1,14 +1,16 @@
--- What holds of every single call. The proofs are in proofs/Soundness.antt, Refusals.antt, WordSizes.antt and Sending.antt.
+-- What holds of every single call. The proofs are in proofs/Soundness.antt, Refusals.antt, WordSizes.antt, Sending.antt and Upgrading.antt.
 use Prim.Native.Nat.{ℕ, _^_, _≤_}
-use mathlib.Core.Bool.{Bool, true, _&&_}
+use mathlib.Core.Bool.{Bool, true, not, _&&_}
 use mathlib.Core.List.{List, [], _∷_}
 use mathlib.Core.Path.{_≡_}
 use lib.Dec.{T, ltb}
 use lib.ListN.{length, take, drop}
 use lib.Pow.{areBytes}
+use Rattle.prelude.specs.Choice.{every}
 use Rattle.prelude.specs.Refusals.{accepted}
 use Rattle.records.specs.declared.Direction.the-variants.{Request}
 use Rattle.records.specs.Codec.{readRun}
+use Rattle.machine.specs.Policy.{isReplaced}
 use Rattle.machine.specs.Session.{emptyState, sound}
 use Rattle.machine.specs.Machine.{outcome, Fed, feed}
 
@@ -52,3 +54,7 @@ SentReadsBack =
     (p scripts s bytes out : List ℕ) → T (areBytes scripts) → T (areWords s) → T (areBytes bytes)
     → readRun Request (take (feed p scripts s bytes out .bytes) (feed p scripts s bytes out .buffer))
     ≡ record { records = outcome p scripts s bytes out .effects .sent; left = [] }
+
+-- No request goes by http to a host that is always https, whatever the state that was lent.
+abbrev pub AlwaysHttps : Type 0
+AlwaysHttps = (p scripts s bytes out : List ℕ) → T (every (λ r. not (isReplaced p (r .url))) (outcome p scripts s bytes out .effects .sent))

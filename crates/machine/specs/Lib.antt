@@ -4,6 +4,7 @@ pub mod Scripts
 pub mod Machine
 pub mod Cases
 pub mod MoreCases
+pub mod HttpsCases
 pub mod Guarantees
 pub mod Secrecy
 pub mod SecrecyExamples

@@ -12,7 +12,7 @@ use Rattle.records.specs.declared.Record.{Record}
 use Rattle.records.specs.Bytes.{bit}
 use Rattle.records.specs.Layout.{keyNumbers, cookiesBit, load, documentResponse, scriptResponse, pictureResponse, longest}
 use Rattle.records.specs.Codec.{readRefusals, decoded, writeRun}
-use Rattle.machine.specs.Policy.{urlHost, wellFormed, isUrl, isConnection, loadReaders, loadWriters, redirectReaders, redirectWriters}
+use Rattle.machine.specs.Policy.{urlHost, wellFormed, isUrl, upgraded, isConnection, loadReaders, loadWriters, redirectReaders, redirectWriters}
 use Rattle.machine.specs.Session.{free, documentKind, scriptKind, pictureKind, connectionWord, kindOf, originOf, handlerOf, urlOf, sound}
 use Rattle.machine.specs.Session.{has, Cookie, storeCookies, setConnection, Effects, send}
 use Rattle.machine.specs.Scripts.{stepLimit, tableBytes, isScript, stopped, runScript}
@@ -39,21 +39,24 @@ plainMap m = m - 2 ^ cookiesBit * bit m cookiesBit
 unfoldable pub cookiesOf : Record → List Cookie
 cookiesOf r = map (λ k. record { key = k; value = getD (r .cookies) k 0 }) (keep (has (r .keys)) keyNumbers)
 
--- what a record's fields say, for the maps that an input has
-unfoldable pub arrivedOf : Record → Arrived
-arrivedOf r =
+-- What a record's fields say under a policy, for the maps that an input has. A load's URL and a redirect's target are the ones asked for in
+-- place of the record's; the URL that something arrives for is the record's own.
+unfoldable pub arrivedOf : List ℕ → Record → Arrived
+arrivedOf p r =
     let m = plainMap (r .map) in
     branch (eqb m documentResponse) (DocumentResponse (r .script))
     (branch (eqb m scriptResponse) (ScriptResponse (r .value))
     (branch (eqb m pictureResponse) PictureResponse
-    (Redirect (r .target))))
+    (Redirect (upgraded p (r .target)))))
 
-unfoldable pub eventOf : Record → Event
-eventOf r = branch (eqb (plainMap (r .map)) load) (Load (r .url) (r .connection)) (Arrival (r .url) (r .connection) (cookiesOf r) (arrivedOf r))
+unfoldable pub eventOf : List ℕ → Record → Event
+eventOf p r =
+    branch (eqb (plainMap (r .map)) load) (Load (upgraded p (r .url)) (r .connection))
+    (Arrival (r .url) (r .connection) (cookiesOf r) (arrivedOf p r))
 
 -- what a record's bytes say
-abbrev pub eventIn : List ℕ → Event
-eventIn bytes = eventOf (decoded Input bytes .fields)
+abbrev pub eventIn : List ℕ → List ℕ → Event
+eventIn p bytes = eventOf p (decoded Input bytes .fields)
 
 -- ---- the tests of an event: each refusal applies where its test fails
 
@@ -156,7 +159,7 @@ eventRefusals p s event = refuse nameUnknown (not (named p event)) ∷ judgement
 -- all of them in their order: decoding's own, of a malformed record, stand between the two
 abbrev pub refusals : List ℕ → List ℕ → List ℕ → List ℕ → List ℕ → List (Refusal ℕ)
 refusals p scripts s bytes out =
-    lentRefusals p scripts s out ++ (readRefusals Input bytes ++ eventRefusals p s (eventIn bytes))
+    lentRefusals p scripts s out ++ (readRefusals Input bytes ++ eventRefusals p s (eventIn p bytes))
 
 -- the first that applies
 unfoldable pub refusal : List ℕ → List ℕ → List ℕ → List ℕ → List ℕ → ℕ
@@ -186,7 +189,7 @@ pub record Outcome : Type 0 where
 unfoldable pub outcome : List ℕ → List ℕ → List ℕ → List ℕ → List ℕ → Outcome
 outcome p scripts s bytes out =
     let number = refusal p scripts s bytes out in
-    let done = perform p scripts s (eventIn bytes) in
+    let done = perform p scripts s (eventIn p bytes) in
     record { number = number; effects = branch (eqb number accepted) done (stopped s) }
 
 -- ---- feed

@@ -11,7 +11,7 @@ use Rattle.machine.specs.Machine.{outputRoom}
 use Rattle.machine.specs.Cases.{Words, url, cookieLabel, connection, policyWith}
 use Rattle.machine.specs.Cases.{scriptsWith, scriptIs, scriptOf, valueIs, keysAre, connectionIs}
 use Rattle.machine.specs.Cases.{loading, requesting, picturing, Call, Case, allRight}
-use Rattle.machine.specs.Cases.{call, refused, policyP, fromEmpty, loadZero, sevenStored, caseA}
+use Rattle.machine.specs.Cases.{call, refused, oneCall, oneRefused, policyP, fromEmpty, loadZero, sevenStored, caseA}
 
 -- ---- document 01's other examples
 
@@ -97,18 +97,6 @@ policyQ = policyWith (
     ∷ cookieLabel 1 1 0x20000 0xf
     ∷ [])
 
--- with Q: a script table, the state to start from, the record, and its number, steps, bytes sent and state
-abbrev pub inQ : List Words → List Words → List ℕ → ℕ → ℕ → List ℕ → List Words → Case
-inQ scripts start fed number steps sent state = record {
-  scripts = scriptsWith scripts;
-  room = outputRoom;
-  start = start;
-  calls = call fed number steps sent state ∷ [];
-}
-
-abbrev pub refusedInQ : List Words → List ℕ → ℕ → Case
-refusedInQ start fed number = inQ [] start fed number 0 [] start
-
 -- connection 0 loads the page; its response names script 1
 abbrev pub pageLoading : List Words
 pageLoading = loading 0 2 ∷ []
@@ -118,7 +106,7 @@ pageResponse = 0x0b ∷ 0x02 ∷ 0x00 ∷ 0x01 ∷ []
 
 -- the page with a script, from a state: the steps run, the bytes sent and the state after
 abbrev pub pageRuns : List Words → List Step → ℕ → List ℕ → List Words → Case
-pageRuns before code steps sent after = inQ (scriptOf 1 code ∷ []) (pageLoading ++ before) pageResponse 0 steps sent after
+pageRuns before code steps sent after = oneCall (scriptOf 1 code ∷ []) (pageLoading ++ before) pageResponse 0 steps sent after
 
 -- ---- each condition where it alone fails
 
@@ -161,17 +149,17 @@ casesOfConditions =
     ∷ pageRuns [] (constant 1 9 ∷ writeCookie 3 1 ∷ writeCookie 2 1 ∷ writeCookie 0 1 ∷ end ∷ []) 5 [] (nineFor 0 0x01)
     -- Delivered: the readers of key 1 are not within the connection's, and its writers not within those of key 2; these are passed over. Key 3
     -- goes by the connection's readers, and not by S.
-    ∷ inQ [] pageLoading
+    ∷ oneCall [] pageLoading
     (0x0f ∷ 0x02 ∷ 0x00 ∷ 0x0e ∷ 0x00 ∷ 0x00 ∷ 0x00 ∷ 0x07 ∷ 0x00 ∷ 0x00 ∷ 0x00 ∷ 0x08
     ∷ 0x00 ∷ 0x00 ∷ 0x00 ∷ 0x09 ∷ 0x00 ∷ []) 0 1 []
     (nineFor 3 0x08)
     -- A redirect of connection 1 where it is allowed, to URL 1.
-    ∷ inQ [] (loading 1 2 ∷ []) (0x23 ∷ 0x02 ∷ 0x01 ∷ 0x01 ∷ []) 0 0 (0x03 ∷ 0x01 ∷ 0x01 ∷ []) (loading 1 1 ∷ [])
+    ∷ oneCall [] (loading 1 2 ∷ []) (0x23 ∷ 0x02 ∷ 0x01 ∷ 0x01 ∷ []) 0 0 (0x03 ∷ 0x01 ∷ 0x01 ∷ []) (loading 1 1 ∷ [])
     -- the event endpoint of URL 0 is not among its readers; its readers are not within those of URL 3
-    ∷ refusedInQ (loading 1 2 ∷ []) (0x23 ∷ 0x02 ∷ 0x01 ∷ 0x00 ∷ []) 8
-    ∷ refusedInQ (loading 1 2 ∷ []) (0x23 ∷ 0x02 ∷ 0x01 ∷ 0x03 ∷ []) 8
+    ∷ oneRefused (loading 1 2 ∷ []) (0x23 ∷ 0x02 ∷ 0x01 ∷ 0x00 ∷ []) 8
+    ∷ oneRefused (loading 1 2 ∷ []) (0x23 ∷ 0x02 ∷ 0x01 ∷ 0x03 ∷ []) 8
     -- the message endpoint of URL 1 is not among the writers of connection 3; case i has the other condition of 9
-    ∷ refusedInQ (loading 3 2 ∷ []) (0x23 ∷ 0x02 ∷ 0x03 ∷ 0x01 ∷ []) 9
+    ∷ oneRefused (loading 3 2 ∷ []) (0x23 ∷ 0x02 ∷ 0x03 ∷ 0x01 ∷ []) 9
     ∷ []
 
 -- ---- connections, handlers and attached cookies
@@ -191,37 +179,37 @@ twoStored = valueIs 0 6 7 ∷ valueIs 0 7 8 ∷ keysAre 0 0xc0 ∷ []
 abbrev pub casesOfConnections : List Case
 casesOfConnections =
     -- A load replaces what was pending.
-    inQ [] handlerWaiting (0x03 ∷ 0x02 ∷ 0x01 ∷ []) 0 0 (0x03 ∷ 0x02 ∷ 0x01 ∷ []) (loading 1 2 ∷ [])
+    oneCall [] handlerWaiting (0x03 ∷ 0x02 ∷ 0x01 ∷ []) 0 0 (0x03 ∷ 0x02 ∷ 0x01 ∷ []) (loading 1 2 ∷ [])
     -- A script's request replaces what was pending.
-    ∷ inQ requestAndHandle (loading 1 2 ∷ pageLoading) pageResponse 0 2 (0x0b ∷ 0x01 ∷ 0x01 ∷ 0x02 ∷ []) (requesting 1 2 2 1 ∷ [])
+    ∷ oneCall requestAndHandle (loading 1 2 ∷ pageLoading) pageResponse 0 2 (0x0b ∷ 0x01 ∷ 0x01 ∷ 0x02 ∷ []) (requesting 1 2 2 1 ∷ [])
     -- A script opens again the connection that it came on.
-    ∷ inQ requestAndHandle (loading 1 2 ∷ []) (0x0b ∷ 0x02 ∷ 0x01 ∷ 0x01 ∷ []) 0 2
+    ∷ oneCall requestAndHandle (loading 1 2 ∷ []) (0x0b ∷ 0x02 ∷ 0x01 ∷ 0x01 ∷ []) 0 2
     (0x0b ∷ 0x01 ∷ 0x01 ∷ 0x02 ∷ []) (requesting 1 2 2 1 ∷ [])
     -- The handler runs at the host of the page, which is host 0, and not at host 1, which answers and whose key 0 the response brings.
     -- Register 0 is the value, and the sum wraps at 2^32.
-    ∷ inQ requestAndHandle handlerWaiting
+    ∷ oneCall requestAndHandle handlerWaiting
     (0x17 ∷ 0x01 ∷ 0x01 ∷ 0x01 ∷ 0x00 ∷ 0x00 ∷ 0x00 ∷ 0x09 ∷ 0xff ∷ 0xff ∷ 0xff ∷ 0xff ∷ [])
     0 4 [] (valueIs 0 6 1 ∷ keysAre 0 0x40 ∷ hostOneNine)
     -- The redirect of a script's request keeps kind, origin and handler; its own request has the handler, and the cookie that it brought.
-    ∷ inQ requestAndHandle handlerWaiting (0x27 ∷ 0x01 ∷ 0x01 ∷ 0x01 ∷ 0x00 ∷ 0x00 ∷ 0x00 ∷ 0x09 ∷ 0x05 ∷ []) 0 0
+    ∷ oneCall requestAndHandle handlerWaiting (0x27 ∷ 0x01 ∷ 0x01 ∷ 0x01 ∷ 0x00 ∷ 0x00 ∷ 0x00 ∷ 0x09 ∷ 0x05 ∷ []) 0 0
     (0x0f ∷ 0x05 ∷ 0x01 ∷ 0x01 ∷ 0x00 ∷ 0x00 ∷ 0x00 ∷ 0x09 ∷ 0x02 ∷ []) (requesting 1 2 2 5 ∷ hostOneNine)
     -- A redirect's cookies are the old URL's host's: key 6 of host 0. One that may not be stored, key 0, is passed over.
-    ∷ inQ [] (loading 1 2 ∷ [])
+    ∷ oneCall [] (loading 1 2 ∷ [])
     (0x27 ∷ 0x02 ∷ 0x01 ∷ 0x41 ∷ 0x00 ∷ 0x00 ∷ 0x00 ∷ 0x08 ∷ 0x00 ∷ 0x00 ∷ 0x00 ∷ 0x09 ∷ 0x01 ∷ []) 0 0
     (0x03 ∷ 0x01 ∷ 0x01 ∷ []) (loading 1 1 ∷ valueIs 0 6 9 ∷ keysAre 0 0x40 ∷ [])
     -- Cookies are attached by the URL's message endpoint: key 6 and not key 7. The readers of connection 1 hold those of both; connection 5 has none.
-    ∷ inQ [] twoStored (0x03 ∷ 0x02 ∷ 0x01 ∷ []) 0 0
+    ∷ oneCall [] twoStored (0x03 ∷ 0x02 ∷ 0x01 ∷ []) 0 0
     (0x07 ∷ 0x02 ∷ 0x01 ∷ 0x40 ∷ 0x00 ∷ 0x00 ∷ 0x00 ∷ 0x07 ∷ []) (loading 1 2 ∷ twoStored)
-    ∷ inQ [] twoStored (0x03 ∷ 0x02 ∷ 0x05 ∷ []) 0 0
+    ∷ oneCall [] twoStored (0x03 ∷ 0x02 ∷ 0x05 ∷ []) 0 0
     (0x07 ∷ 0x02 ∷ 0x05 ∷ 0x40 ∷ 0x00 ∷ 0x00 ∷ 0x00 ∷ 0x07 ∷ []) (loading 5 2 ∷ twoStored)
     -- Whatever the URL's readers are: those of key 1 of host 1 are not within them, and they do not hold the message endpoint of URL 6.
-    ∷ inQ [] (valueIs 1 1 9 ∷ keysAre 1 0x02 ∷ []) (0x03 ∷ 0x06 ∷ 0x06 ∷ []) 0 0
+    ∷ oneCall [] (valueIs 1 1 9 ∷ keysAre 1 0x02 ∷ []) (0x03 ∷ 0x06 ∷ 0x06 ∷ []) 0 0
     (0x07 ∷ 0x06 ∷ 0x06 ∷ 0x02 ∷ 0x00 ∷ 0x00 ∷ 0x00 ∷ 0x09 ∷ []) (loading 6 6 ∷ valueIs 1 1 9 ∷ keysAre 1 0x02 ∷ [])
     -- A present cookie of value 0 is attached.
-    ∷ inQ [] (keysAre 0 0x40 ∷ []) (0x03 ∷ 0x02 ∷ 0x01 ∷ []) 0 0
+    ∷ oneCall [] (keysAre 0 0x40 ∷ []) (0x03 ∷ 0x02 ∷ 0x01 ∷ []) 0 0
     (0x07 ∷ 0x02 ∷ 0x01 ∷ 0x40 ∷ 0x00 ∷ 0x00 ∷ 0x00 ∷ 0x00 ∷ []) (loading 1 2 ∷ keysAre 0 0x40 ∷ [])
     -- 7: a document's response to a script's request
-    ∷ refusedInQ handlerWaiting (0x0b ∷ 0x01 ∷ 0x01 ∷ 0x00 ∷ []) 7
+    ∷ oneRefused handlerWaiting (0x0b ∷ 0x01 ∷ 0x01 ∷ 0x00 ∷ []) 7
     -- One skip is taken, over two steps; the next is not, as register 1 is not 0. Key 8 ends the script.
     ∷ pageRuns []
     (skipIfZero 0 2 ∷ writeCookie 5 0 ∷ end ∷ constant 1 0x0102 ∷ skipIfZero 1 1
@@ -243,7 +231,7 @@ casesOfPictures =
     (0x47 ∷ 0x01 ∷ 0x01 ∷ 0x01 ∷ 0x00 ∷ 0x00 ∷ 0x00 ∷ 0x09 ∷ []) (picturing 1 1 ∷ hostOneNine)
     ∷ pageRuns handlerWaiting (sendPicture 5 1 ∷ end ∷ []) 2 (0x43 ∷ 0x05 ∷ 0x01 ∷ []) (picturing 1 5 ∷ [])
     -- Its third field is not used: 255 is no handler.
-    ∷ inQ (scriptIs 1 (7 ∷ 1 ∷ 1 ∷ 255 ∷ []) ∷ []) pageLoading pageResponse 0 2 (0x43 ∷ 0x01 ∷ 0x01 ∷ []) (picturing 1 1 ∷ [])
+    ∷ oneCall (scriptIs 1 (7 ∷ 1 ∷ 1 ∷ 255 ∷ []) ∷ []) pageLoading pageResponse 0 2 (0x43 ∷ 0x01 ∷ 0x01 ∷ []) (picturing 1 1 ∷ [])
     -- the conditions of step 5, each where it alone fails: event endpoint, readers of the connection, its fit (readers, message endpoint), J
     -- within the connection's writers and within the URL's
     ∷ pageRuns [] (sendPicture 0 1 ∷ end ∷ []) 1 [] []
@@ -253,22 +241,22 @@ casesOfPictures =
     ∷ pageRuns [] (sendPicture 1 4 ∷ end ∷ []) 1 [] []
     ∷ pageRuns [] (sendPicture 4 1 ∷ end ∷ []) 1 [] []
     -- A picture's response frees the connection, and stores what it brings. Nothing runs, though script 0 would act, as it does for a document.
-    ∷ inQ actingScript (picturing 1 1 ∷ []) (0x43 ∷ 0x01 ∷ 0x01 ∷ []) 0 0 [] []
-    ∷ inQ actingScript (picturing 1 1 ∷ []) (0x47 ∷ 0x01 ∷ 0x01 ∷ 0x01 ∷ 0x00 ∷ 0x00 ∷ 0x00 ∷ 0x09 ∷ []) 0 0 [] hostOneNine
-    ∷ inQ actingScript (loading 1 1 ∷ []) (0x0b ∷ 0x01 ∷ 0x01 ∷ 0x00 ∷ []) 0 4
+    ∷ oneCall actingScript (picturing 1 1 ∷ []) (0x43 ∷ 0x01 ∷ 0x01 ∷ []) 0 0 [] []
+    ∷ oneCall actingScript (picturing 1 1 ∷ []) (0x47 ∷ 0x01 ∷ 0x01 ∷ 0x01 ∷ 0x00 ∷ 0x00 ∷ 0x00 ∷ 0x09 ∷ []) 0 0 [] hostOneNine
+    ∷ oneCall actingScript (loading 1 1 ∷ []) (0x0b ∷ 0x01 ∷ 0x01 ∷ 0x00 ∷ []) 0 4
     (0x0f ∷ 0x01 ∷ 0x01 ∷ 0x01 ∷ 0x00 ∷ 0x00 ∷ 0x00 ∷ 0x09 ∷ 0x00 ∷ []) (requesting 1 1 0 1 ∷ hostOneNine)
     -- 7: a picture's response on a free connection, on one that holds another URL, on a document's and on a script request's; a document's and a
     -- script request's on a picture's
-    ∷ refusedInQ [] (0x43 ∷ 0x01 ∷ 0x01 ∷ []) 7
-    ∷ refusedInQ (picturing 1 5 ∷ []) (0x43 ∷ 0x01 ∷ 0x01 ∷ []) 7
-    ∷ refusedInQ (loading 1 1 ∷ []) (0x43 ∷ 0x01 ∷ 0x01 ∷ []) 7
-    ∷ refusedInQ handlerWaiting (0x43 ∷ 0x01 ∷ 0x01 ∷ []) 7
-    ∷ refusedInQ (picturing 1 1 ∷ []) (0x0b ∷ 0x01 ∷ 0x01 ∷ 0x00 ∷ []) 7
-    ∷ refusedInQ (picturing 1 1 ∷ []) (0x13 ∷ 0x01 ∷ 0x01 ∷ 0x00 ∷ 0x00 ∷ 0x00 ∷ 0x09 ∷ []) 7
+    ∷ oneRefused [] (0x43 ∷ 0x01 ∷ 0x01 ∷ []) 7
+    ∷ oneRefused (picturing 1 5 ∷ []) (0x43 ∷ 0x01 ∷ 0x01 ∷ []) 7
+    ∷ oneRefused (loading 1 1 ∷ []) (0x43 ∷ 0x01 ∷ 0x01 ∷ []) 7
+    ∷ oneRefused handlerWaiting (0x43 ∷ 0x01 ∷ 0x01 ∷ []) 7
+    ∷ oneRefused (picturing 1 1 ∷ []) (0x0b ∷ 0x01 ∷ 0x01 ∷ 0x00 ∷ []) 7
+    ∷ oneRefused (picturing 1 1 ∷ []) (0x13 ∷ 0x01 ∷ 0x01 ∷ 0x00 ∷ 0x00 ∷ 0x00 ∷ 0x09 ∷ []) 7
     -- 6: the URL has an empty row, or none; there is no connection 32
-    ∷ refusedInQ [] (0x43 ∷ 0x07 ∷ 0x01 ∷ []) 6
-    ∷ refusedInQ [] (0x43 ∷ 0x40 ∷ 0x01 ∷ []) 6
-    ∷ refusedInQ [] (0x43 ∷ 0x01 ∷ 0x20 ∷ []) 6
+    ∷ oneRefused [] (0x43 ∷ 0x07 ∷ 0x01 ∷ []) 6
+    ∷ oneRefused [] (0x43 ∷ 0x40 ∷ 0x01 ∷ []) 6
+    ∷ oneRefused [] (0x43 ∷ 0x01 ∷ 0x20 ∷ []) 6
     -- A picture that is redirected twice, the first time with a cookie: both requests are a picture's, and so is the response at the end.
     ∷ record {
       scripts = scriptsWith [];
@@ -283,18 +271,18 @@ casesOfPictures =
     }
     -- 8: the event endpoint of URL 0 is not among the connection's readers; its readers are not within those of URL 3. 9: the message endpoint of
     -- URL 1 is not among the writers of connection 3
-    ∷ refusedInQ (picturing 1 2 ∷ []) (0x23 ∷ 0x02 ∷ 0x01 ∷ 0x00 ∷ []) 8
-    ∷ refusedInQ (picturing 1 2 ∷ []) (0x23 ∷ 0x02 ∷ 0x01 ∷ 0x03 ∷ []) 8
-    ∷ refusedInQ (picturing 3 2 ∷ []) (0x23 ∷ 0x02 ∷ 0x03 ∷ 0x01 ∷ []) 9
+    ∷ oneRefused (picturing 1 2 ∷ []) (0x23 ∷ 0x02 ∷ 0x01 ∷ 0x00 ∷ []) 8
+    ∷ oneRefused (picturing 1 2 ∷ []) (0x23 ∷ 0x02 ∷ 0x01 ∷ 0x03 ∷ []) 8
+    ∷ oneRefused (picturing 3 2 ∷ []) (0x23 ∷ 0x02 ∷ 0x03 ∷ 0x01 ∷ []) 9
     -- A load replaces a picture.
-    ∷ inQ [] (picturing 1 1 ∷ []) (0x03 ∷ 0x02 ∷ 0x01 ∷ []) 0 0 (0x03 ∷ 0x02 ∷ 0x01 ∷ []) (loading 1 2 ∷ [])
+    ∷ oneCall [] (picturing 1 1 ∷ []) (0x03 ∷ 0x02 ∷ 0x01 ∷ []) 0 0 (0x03 ∷ 0x02 ∷ 0x01 ∷ []) (loading 1 2 ∷ [])
     ∷ []
 
 -- ---- how a script ends
 
 -- The page's script is one step, given by its bytes, and ends there. Host 0 has key 1, which the script may read.
 abbrev pub endsAt : List ℕ → Case
-endsAt bytes = inQ (scriptIs 1 bytes ∷ []) (pageLoading ++ nineFor 1 0x02) pageResponse 0 1 [] (nineFor 1 0x02)
+endsAt bytes = oneCall (scriptIs 1 bytes ∷ []) (pageLoading ++ nineFor 1 0x02) pageResponse 0 1 [] (nineFor 1 0x02)
 
 abbrev pub casesOfEndings : List Case
 casesOfEndings =
@@ -322,7 +310,7 @@ casesOfEndings =
 
 -- a policy with a word too few, for 2; a script table with a byte too few, for 3; a presence bit above the eight, for 4
 abbrev pub shortPolicy : List ℕ
-shortPolicy = take 543 policyP
+shortPolicy = take 608 policyP
 
 abbrev pub shortTable : List ℕ
 shortTable = replicate 2047 0

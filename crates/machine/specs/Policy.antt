@@ -1,10 +1,11 @@
--- The policy (document 01, "The policy"): its 544 words by name, when it is well formed, and the questions that are asked of it.
+-- The policy (document 01, "The policy"): its 609 words by name, when it is well formed, and the questions that are asked of it.
 -- A connection is document 01's lane; readers and writers are its readers and authors.
-use Prim.Native.Nat.{ℕ, _+_, _*_}
+use Prim.Native.Nat.{ℕ, _+_, _*_, _^_}
 use mathlib.Core.Bool.{Bool, not, _&&_, _||_}
 use mathlib.Core.List.{List}
 use lib.Dec.{ltb, eqb}
 use lib.ListN.{length, getD}
+use Rattle.prelude.specs.Choice.{branch}
 use Rattle.labels.specs.Membership.{endpoints, allBelow}
 use Rattle.labels.specs.Sets.{holds, within}
 use Rattle.labels.specs.Addresses.{hosts, hostOf, messageEndpoint, eventEndpoint}
@@ -27,8 +28,14 @@ cookieLabelsAt = 3 * urlRows
 abbrev pub connectionLabelsAt : ℕ
 connectionLabelsAt = cookieLabelsAt + 2 * (hosts * hostKeys)
 
+abbrev pub httpsHostsAt : ℕ
+httpsHostsAt = connectionLabelsAt + 3 * connections
+
+abbrev pub partnersAt : ℕ
+partnersAt = httpsHostsAt + 1
+
 abbrev pub policyWords : ℕ
-policyWords = connectionLabelsAt + 3 * connections
+policyWords = partnersAt + urlRows
 
 -- words 0 to 191: URL u has the words address, readers, writers
 abbrev pub urlAddress : List ℕ → ℕ → ℕ
@@ -61,6 +68,17 @@ scriptReaders p n = getD p (connectionLabelsAt + 3 * n + 1) 0
 abbrev pub connectionWriters : List ℕ → ℕ → ℕ
 connectionWriters p n = getD p (connectionLabelsAt + 3 * n + 2) 0
 
+-- word 544: the hosts that are always https, bit h for host h; so it is the set of their http endpoints
+abbrev pub httpsHosts : List ℕ → ℕ
+httpsHosts p = getD p httpsHostsAt 0
+
+-- words 545 to 608: the partner of URL u, or 255 where it has none
+abbrev pub urlPartner : List ℕ → ℕ → ℕ
+urlPartner p u = getD p (partnersAt + u) 0
+
+abbrev pub noPartner : ℕ
+noPartner = 255
+
 -- a URL's host and endpoints are those of its address
 abbrev pub urlHost : List ℕ → ℕ → ℕ
 urlHost p u = hostOf (urlAddress p u)
@@ -80,23 +98,43 @@ noAddress = 255
 unfoldable pub emptyRow : List ℕ → ℕ → Bool
 emptyRow p u = eqb (urlAddress p u) noAddress && (eqb (urlReaders p u) 0 && eqb (urlWriters p u) 0)
 
+-- a number that names a URL: it has a row that is not empty
+unfoldable pub isUrl : List ℕ → ℕ → Bool
+isUrl p u = ltb u urlRows && not (emptyRow p u)
+
 unfoldable pub rowWellFormed : List ℕ → ℕ → Bool
 rowWellFormed p u = emptyRow p u || (ltb (urlAddress p u) endpoints && holds (urlReaders p u) (urlEvent p u))
 
 unfoldable pub connectionWellFormed : List ℕ → ℕ → Bool
 connectionWellFormed p n = within (scriptReaders p n) (connectionReaders p n)
 
+-- by http, at a host that is always https
+unfoldable pub isReplaced : List ℕ → ℕ → Bool
+isReplaced p u = ltb (urlAddress p u) hosts && holds (httpsHosts p) (urlHost p u)
+
+-- a URL by https at the host of u, which is by http
+unfoldable pub isPartner : List ℕ → ℕ → ℕ → Bool
+isPartner p u v = isUrl p v && eqb (urlAddress p v) (hosts + urlHost p u)
+
+-- such a URL names a partner, and every other row has none, an empty one too
+unfoldable pub partnerWellFormed : List ℕ → ℕ → Bool
+partnerWellFormed p u = branch (isReplaced p u) (isPartner p u (urlPartner p u)) (eqb (urlPartner p u) noPartner)
+
+-- the word of hosts has no bit but theirs
 unfoldable pub wellFormed : List ℕ → Bool
 wellFormed p =
     eqb (length p) policyWords
     && (allBelow urlRows (rowWellFormed p)
-    && allBelow connections (connectionWellFormed p))
+    && (allBelow connections (connectionWellFormed p)
+    && (ltb (httpsHosts p) (2 ^ hosts)
+    && allBelow urlRows (partnerWellFormed p))))
 
 -- ---- the questions
 
--- a number that names a URL: it has a row that is not empty
-unfoldable pub isUrl : List ℕ → ℕ → Bool
-isUrl p u = ltb u urlRows && not (emptyRow p u)
+-- What is asked for in place of a number: the partner of a URL that has one (RFC 6797, 8.3). A number without a row stays, and names nothing.
+-- Loads, redirects and the steps that send ask for it before anything else is asked; what arrives names its URL as the connection holds it.
+unfoldable pub upgraded : List ℕ → ℕ → ℕ
+upgraded p u = branch (ltb u urlRows && not (eqb (urlPartner p u) noPartner)) (urlPartner p u) u
 
 abbrev pub isConnection : ℕ → Bool
 isConnection n = ltb n connections

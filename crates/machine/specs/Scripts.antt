@@ -7,7 +7,7 @@ use lib.Dec.{ltb, eqb}
 use lib.ListN.{getD, set, take, drop}
 use Rattle.prelude.specs.Choice.{branch}
 use Rattle.records.specs.declared.Record.{Record}
-use Rattle.machine.specs.Policy.{hostKeys, cookieIndex, urlHost, isUrl, isConnection, mayRead, mayWrite, maySend}
+use Rattle.machine.specs.Policy.{hostKeys, cookieIndex, urlHost, isUrl, upgraded, isConnection, mayRead, mayWrite, maySend}
 use Rattle.machine.specs.Session.{scriptCount, scriptKind, pictureKind, cookieValue, present, setCookie, Effects, send}
 
 -- ---- the script table (document 01's shelf): 16 scripts of 32 steps of 4 bytes
@@ -114,13 +114,13 @@ step p n page (writeCookie k b) i rs s =
     (branch (mayWrite p n c) (goesOn (suc i) rs (setCookie (urlHost p page) k (register rs b) s))
     (goesOn (suc i) rs s))
     (ended rs s)
-step p n page (sendRequest u m handler) i rs s = requested p n scriptKind page handler u m i rs s
+step p n page (sendRequest u m handler) i rs s = requested p n scriptKind page handler (upgraded p u) m i rs s
 step p n page (skipIfZero a b) i rs s =
     branch (isRegister a)
     (branch (eqb (register rs a) 0) (goesOn (suc i + b) rs s)
     (goesOn (suc i) rs s))
     (ended rs s)
-step p n page (sendPicture u m) i rs s = requested p n pictureKind 0 0 u m i rs s
+step p n page (sendPicture u m) i rs s = requested p n pictureKind 0 0 (upgraded p u) m i rs s
 
 -- ---- a run
 

@@ -53,7 +53,8 @@ unfoldable pub run : List ℕ → List ℕ → List Item → Trace
 run p scripts is = feedAll p scripts emptyState is
 
 -- ---- what is hidden from a set is struck; what remains (document 01's list of what is hidden)
--- It is a list of events. An event has the record's fields and no more, so equal records leave equal events.
+-- It is a list of events. An event has the record's fields and no more, but that a load's URL and a redirect's target are those that are asked for.
+-- So equal records leave equal events, a load goes by the readers of the URL that is sent, and a record that names the partner leaves the same.
 
 -- the cookies of a URL's host whose readers meet the set
 unfoldable pub shownCookies : ℕ → List ℕ → ℕ → List Cookie → List Cookie
@@ -68,7 +69,7 @@ shown set p (Arrival u n cs what) = branch (meets (connectionReaders p n) set) (
 -- a malformed record is struck, and one that 6 fits
 unfoldable pub shownRecord : ℕ → List ℕ → List ℕ → List Event
 shownRecord set p bytes =
-    let event = eventIn bytes in
+    let event = eventIn p bytes in
     branch (eqb (decoded Input bytes .number) accepted && named p event) (shown set p event) []
 
 -- what is left of a list, in order

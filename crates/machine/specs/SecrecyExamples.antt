@@ -8,10 +8,10 @@ use lib.ListN.{length, replicate}
 use Rattle.records.specs.declared.Record.{Record}
 use Rattle.records.specs.Codec.{bytesOf}
 use Rattle.machine.specs.Policy.{cookieIndex}
-use Rattle.machine.specs.Session.{cookieValue, Cookie}
+use Rattle.machine.specs.Session.{free, documentKind, packed, cookieValue, connectionWord, Cookie}
 use Rattle.machine.specs.Scripts.{end, constant, writeCookie, sendRequest, sendPicture}
 use Rattle.machine.specs.Machine.{Arrived, DocumentResponse, ScriptResponse, PictureResponse, Redirect, Event, Load, Arrival}
-use Rattle.machine.specs.Cases.{url, cookieLabel, connection, policyWith, scriptsWith, scriptOf, sameNumbers}
+use Rattle.machine.specs.Cases.{url, cookieLabel, connection, alwaysHttps, partner, policyWith, scriptsWith, scriptOf, sameNumbers}
 use Rattle.machine.specs.Secrecy.{Item, Trace, run, remaining, Observation, observations}
 
 -- ---- what is compared, as lists of numbers
@@ -215,6 +215,48 @@ hiddenPictureUnseen p a b =
 abbrev pub pageWithScript : ℕ → List Item
 pageWithScript x = items 1184 0xee ((0x03 ∷ 0x01 ∷ 0x01 ∷ []) ∷ (0x0b ∷ 0x01 ∷ 0x01 ∷ x ∷ []) ∷ [])
 
+-- ---- a load goes by the URL that is sent
+
+-- Host 0 is always https. URL 0 is read by host 0 alone, and URL 1, which is asked for in its place, by http at host 1 too; the other way round with
+-- URL 2 and URL 3. Connection 0 has the readers of URL 1, and connection 1 those of URL 3.
+abbrev pub policyUpgrading : List ℕ
+policyUpgrading = policyWith (
+    url 0 0 0x00000001 0xffffffff
+    ∷ url 1 16 0x00000003 0xffffffff
+    ∷ url 2 0 0x00000003 0xffffffff
+    ∷ url 3 16 0x00000001 0xffffffff
+    ∷ alwaysHttps 0x1
+    ∷ partner 0 1
+    ∷ partner 2 3
+    ∷ connection 0 0x00000003 0x00000003 0x00010001
+    ∷ connection 1 0x00000001 0x00000001 0x00010001
+    ∷ [])
+
+abbrev pub loadOf : ℕ → ℕ → List Item
+loadOf u n = items 1184 0xee ((0x03 ∷ u ∷ n ∷ []) ∷ [])
+
+-- the word of a connection after a run
+abbrev pub wordOf : Trace → ℕ → ℕ
+wordOf r n = connectionWord (r .state) n
+
+-- A load of URL 0 would be hidden by the URL's own readers. It is not: it remains, as a load of URL 1 does, and the set sees what it does to
+-- connection 0.
+unfoldable pub hiddenThenShown : List ℕ → Trace → Trace → Bool
+hiddenThenShown p none a =
+    struckAlike p 1 (loadOf 0 0) (loadOf 1 0)
+    && (eqb (wordOf none 0) free
+    && eqb (wordOf a 0) (packed documentKind 0 0 1))
+
+-- A load of URL 2 would be shown by the URL's own readers. It is hidden, as a load of URL 3 is: nothing of either remains. The run is another than
+-- that of no record in connection 1, which the set does not see.
+unfoldable pub shownThenHidden : List ℕ → Trace → Trace → Bool
+shownThenHidden p none b =
+    struckAlike p 0 (loadOf 2 1) (loadOf 3 1)
+    && (eqb (wordOf none 1) free
+    && (eqb (wordOf b 1) (packed documentKind 0 0 3)
+    && (eqb (wordOf b 0) free
+    && seenAlike p [] none b)))
+
 -- ---- lists that the set tells apart
 
 -- A cookie that is not hidden, (1,0), with a value; a request of the response's script carries it.
@@ -248,6 +290,9 @@ saysSomethingOfPictures p a b c d e =
     && (sameNumbers (seenNumbers p d) (0x03 ∷ 1 ∷ 1 ∷ 0 ∷ 0 ∷ 0x0b ∷ 1 ∷ 1 ∷ 0 ∷ 0 ∷ [])
     && sameNumbers (seenNumbers p e) (0x03 ∷ 1 ∷ 1 ∷ 0 ∷ 0 ∷ 0x43 ∷ 1 ∷ 1 ∷ 0 ∷ 0 ∷ []))))
 
+unfoldable pub saysSomethingOfUpgrading : List ℕ → Trace → Trace → Trace → Bool
+saysSomethingOfUpgrading p none a b = hiddenThenShown p none a && shownThenHidden p none b
+
 abbrev pub ran : List Item → Trace
 ran is = run policyTwoHosts scriptsTwoHosts is
 
@@ -258,3 +303,9 @@ abbrev pub PicturesSaySomething : Type 0
 PicturesSaySomething = T (
     saysSomethingOfPictures policyTwoHosts
     (ran picturesWithHidden) (ran (pictureBringing 7)) (ran (pictureBringing 8)) (ran (pageWithScript 2)) (ran (pageWithScript 4)))
+
+abbrev pub upgrading : List Item → Trace
+upgrading is = run policyUpgrading scriptsTwoHosts is
+
+abbrev pub UpgradingSaysSomething : Type 0
+UpgradingSaysSomething = T (saysSomethingOfUpgrading policyUpgrading (upgrading []) (upgrading (loadOf 0 0)) (upgrading (loadOf 2 1)))

@@ -1,0 +1,261 @@
+-- Worked cases of hosts that are always https: each of the four ways to ask for a URL, what is left alone, what arrives, and each way in which
+-- number 2 refuses the words that list them and their partners.
+use Prim.Native.Nat.{ℕ}
+use mathlib.Core.Bool.{Bool, true, _&&_}
+use mathlib.Core.List.{List, [], _∷_, _++_}
+use lib.Dec.{T}
+use lib.ListN.{take}
+use Rattle.machine.specs.Policy.{noPartner}
+use Rattle.machine.specs.Scripts.{Step, end, sendRequest, sendPicture}
+use Rattle.machine.specs.Machine.{outputRoom}
+use Rattle.machine.specs.Cases.{Words, url, cookieLabel, connection, alwaysHttps, partner, policyWith, scriptsWith, scriptOf, valueIs, keysAre}
+use Rattle.machine.specs.Cases.{loading, requesting, picturing, Case, call, refused, oneCall, oneRefused, allRight}
+
+-- ---- a policy
+
+-- The http endpoints of hosts 0 to 2 are 0x1, 0x2, 0x4, and the https endpoint of host 1 is 0x20000. Host 1 is always https.
+abbrev pub wordsR : List Words
+wordsR =
+    -- the page, at host 0
+    url 0 0 0xffffffff 0xffffffff
+    -- at host 1 by http and by https
+    ∷ url 1 1 0xffffffff 0xffffffff
+    ∷ url 2 17 0xffffffff 0xffffffff
+    -- the same, and the https one has few readers; few writers
+    ∷ url 3 1 0xffffffff 0xffffffff
+    ∷ url 4 17 0x2 0xffffffff
+    ∷ url 5 1 0xffffffff 0xffffffff
+    ∷ url 6 17 0xffffffff 0x20000
+    -- at host 1 by http: few readers; few writers
+    ∷ url 7 1 0x2 0xffffffff
+    ∷ url 8 1 0xffffffff 0x2
+    -- at host 2 by http and by https
+    ∷ url 9 2 0xffffffff 0xffffffff
+    ∷ url 10 18 0xffffffff 0xffffffff
+    ∷ alwaysHttps 0x2
+    ∷ partner 1 2
+    ∷ partner 3 4
+    ∷ partner 5 6
+    ∷ partner 7 2
+    ∷ partner 8 2
+    -- the page's connection: its scripts have S = 0x7 and J = 0x1
+    ∷ connection 0 0x7 0x7 0x1
+    -- for the page and both schemes of host 1; without https at host 1; without http at host 1
+    ∷ connection 1 0x7 0x7 0x20007
+    ∷ connection 2 0x7 0x7 0x7
+    ∷ connection 3 0x7 0x7 0x20001
+    -- host 1: a cookie that https alone may read, and one that http alone may read
+    ∷ cookieLabel 1 0 0x20000 0xffffffff
+    ∷ cookieLabel 1 1 0x2 0xffffffff
+    ∷ []
+
+abbrev pub policyR : List ℕ
+policyR = policyWith wordsR
+
+-- both cookies are there
+abbrev pub bothStored : List Words
+bothStored = valueIs 1 0 7 ∷ valueIs 1 1 8 ∷ keysAre 1 0x03 ∷ []
+
+-- ---- the four ways to ask for URL u on connection n: it goes to URL 2, by https
+
+-- the fields of such a request: it carries the cookie that https may read, and not the other
+abbrev pub byHttps : ℕ → List ℕ
+byHttps n = 0x02 ∷ n ∷ 0x01 ∷ 0x00 ∷ 0x00 ∷ 0x00 ∷ 0x07 ∷ []
+
+abbrev pub loadGoes : ℕ → ℕ → Case
+loadGoes u n = oneCall [] bothStored (0x03 ∷ u ∷ n ∷ []) 0 0 (0x07 ∷ byHttps n) (loading n 2 ∷ bothStored)
+
+abbrev pub loadRefused : ℕ → ℕ → ℕ → Case
+loadRefused u n number = oneRefused bothStored (0x03 ∷ u ∷ n ∷ []) number
+
+-- the connection holds the page
+abbrev pub redirectGoes : ℕ → ℕ → Case
+redirectGoes u n = oneCall [] (loading n 0 ∷ bothStored) (0x23 ∷ 0x00 ∷ n ∷ u ∷ []) 0 0 (0x07 ∷ byHttps n) (loading n 2 ∷ bothStored)
+
+abbrev pub redirectRefused : ℕ → ℕ → ℕ → Case
+redirectRefused u n number = oneRefused (loading n 0 ∷ bothStored) (0x23 ∷ 0x00 ∷ n ∷ u ∷ []) number
+
+-- the page with one step: it goes on after its request, or ends
+abbrev pub pageWith : Step → ℕ → List ℕ → List Words → Case
+pageWith code steps sent state =
+    oneCall (scriptOf 1 (code ∷ end ∷ []) ∷ []) (loading 0 0 ∷ bothStored) (0x0b ∷ 0x00 ∷ 0x00 ∷ 0x01 ∷ []) 0 steps sent (state ++ bothStored)
+
+abbrev pub scriptGoes : ℕ → ℕ → Case
+scriptGoes u n = pageWith (sendRequest u n 3) 2 (0x0f ∷ byHttps n ++ (0x03 ∷ [])) (requesting n 0 3 2 ∷ [])
+
+abbrev pub pictureGoes : ℕ → ℕ → Case
+pictureGoes u n = pageWith (sendPicture u n) 2 (0x47 ∷ byHttps n) (picturing n 2 ∷ [])
+
+abbrev pub ends : Step → Case
+ends code = pageWith code 1 [] []
+
+abbrev pub casesOfAsking : List Case
+casesOfAsking =
+    -- The URL, the connection's word and the cookies are the partner's. URL 2 is its own, whoever asks for it.
+    loadGoes 1 1
+    ∷ redirectGoes 1 1
+    ∷ scriptGoes 1 1
+    ∷ pictureGoes 1 1
+    ∷ loadGoes 2 1
+    ∷ redirectGoes 2 1
+    ∷ scriptGoes 2 1
+    ∷ pictureGoes 2 1
+    -- The partner's readers decide, whatever the URL's own: those of URL 4 do not allow the connection's, and those of URL 3 would; the other way
+    -- round with URL 2 and URL 7.
+    ∷ loadRefused 3 1 8
+    ∷ redirectRefused 3 1 8
+    ∷ ends (sendRequest 3 1 3)
+    ∷ ends (sendPicture 3 1)
+    ∷ loadGoes 7 1
+    ∷ redirectGoes 7 1
+    ∷ scriptGoes 7 1
+    ∷ pictureGoes 7 1
+    -- So does its message endpoint: connection 2 has that of http alone among its writers, and connection 3 that of https.
+    ∷ loadRefused 1 2 9
+    ∷ redirectRefused 1 2 9
+    ∷ ends (sendRequest 1 2 3)
+    ∷ ends (sendPicture 1 2)
+    ∷ loadGoes 1 3
+    ∷ redirectGoes 1 3
+    ∷ scriptGoes 1 3
+    ∷ pictureGoes 1 3
+    -- And its writers, of which a load asks nothing: those of URL 6 are few, and those of URL 5 would do; the other way round with URL 2 and URL 8.
+    ∷ redirectRefused 5 1 9
+    ∷ ends (sendRequest 5 1 3)
+    ∷ ends (sendPicture 5 1)
+    ∷ redirectGoes 8 1
+    ∷ scriptGoes 8 1
+    ∷ pictureGoes 8 1
+    ∷ []
+
+-- ---- what is left alone
+
+-- connection 1 holds a URL
+abbrev pub holding : ℕ → List Words
+holding u = loading 1 u ∷ bothStored
+
+abbrev pub casesOfLeaving : List Case
+casesOfLeaving =
+    -- Host 2 is not listed: URL 9 stays by http, though there is an https one.
+    oneCall [] bothStored (0x03 ∷ 0x09 ∷ 0x01 ∷ []) 0 0 (0x03 ∷ 0x09 ∷ 0x01 ∷ []) (holding 9)
+    ∷ oneCall [] (holding 0) (0x23 ∷ 0x00 ∷ 0x01 ∷ 0x09 ∷ []) 0 0 (0x03 ∷ 0x09 ∷ 0x01 ∷ []) (holding 9)
+    ∷ pageWith (sendRequest 9 1 3) 2 (0x0b ∷ 0x09 ∷ 0x01 ∷ 0x03 ∷ []) (requesting 1 0 3 9 ∷ [])
+    ∷ pageWith (sendPicture 9 1) 2 (0x43 ∷ 0x09 ∷ 0x01 ∷ []) (picturing 1 9 ∷ [])
+    -- A number above 63 has no partner: not 64, whose word would be past the policy's last, nor 65, which is 1 and 64. URL 11 has an empty row.
+    ∷ loadRefused 64 1 6
+    ∷ redirectRefused 64 1 6
+    ∷ ends (sendRequest 64 1 3)
+    ∷ ends (sendPicture 64 1)
+    ∷ loadRefused 65 1 6
+    ∷ redirectRefused 65 1 6
+    ∷ ends (sendRequest 65 1 3)
+    ∷ ends (sendPicture 65 1)
+    ∷ loadRefused 11 1 6
+    ∷ redirectRefused 11 1 6
+    ∷ []
+
+-- ---- what arrives
+
+-- connection 2 awaits the response to a script's request of page 1, by http at host 1
+abbrev pub pageByHttp : ℕ → List Words
+pageByHttp u = requesting 2 1 3 u ∷ bothStored
+
+abbrev pub requestNine : ℕ → List Words
+requestNine x = scriptOf x (sendRequest 9 2 3 ∷ end ∷ []) ∷ []
+
+abbrev pub casesOfArriving : List Case
+casesOfArriving =
+    -- What arrives names the URL that the connection holds: after a load of URL 1 that is URL 2, for a redirect and for each response.
+    record {
+      scripts = scriptsWith [];
+      room = outputRoom;
+      start = bothStored;
+      calls =
+          call (0x03 ∷ 0x01 ∷ 0x01 ∷ []) 0 0 (0x07 ∷ byHttps 1) (holding 2)
+          ∷ refused (0x23 ∷ 0x01 ∷ 0x01 ∷ 0x09 ∷ []) 7 (holding 2)
+          ∷ refused (0x0b ∷ 0x01 ∷ 0x01 ∷ 0x00 ∷ []) 7 (holding 2)
+          ∷ call (0x23 ∷ 0x02 ∷ 0x01 ∷ 0x01 ∷ []) 0 0 (0x07 ∷ byHttps 1) (holding 2)
+          ∷ refused (0x0b ∷ 0x01 ∷ 0x01 ∷ 0x00 ∷ []) 7 (holding 2)
+          ∷ call (0x0b ∷ 0x02 ∷ 0x01 ∷ 0x00 ∷ []) 0 1 [] bothStored
+          ∷ [];
+    }
+    ∷ oneRefused (requesting 1 0 3 2 ∷ bothStored) (0x13 ∷ 0x01 ∷ 0x01 ∷ 0x00 ∷ 0x00 ∷ 0x00 ∷ 0x09 ∷ []) 7
+    ∷ oneRefused (picturing 1 2 ∷ bothStored) (0x43 ∷ 0x01 ∷ 0x01 ∷ []) 7
+    -- A state may have been lent in which a connection holds URL 1, also one that does not fit URL 2: what arrives is judged by URL 1.
+    ∷ oneRefused (holding 1) (0x0b ∷ 0x02 ∷ 0x01 ∷ 0x00 ∷ []) 7
+    ∷ oneCall [] (holding 1) (0x23 ∷ 0x01 ∷ 0x01 ∷ 0x01 ∷ []) 0 0 (0x07 ∷ byHttps 1) (holding 2)
+    ∷ oneCall [] (loading 2 1 ∷ bothStored) (0x0b ∷ 0x01 ∷ 0x02 ∷ 0x00 ∷ []) 0 1 [] bothStored
+    -- A page is not replaced, neither that of a document's response nor the origin of a script's request, which a redirect keeps.
+    ∷ oneCall (requestNine 1) (loading 2 1 ∷ bothStored) (0x0b ∷ 0x01 ∷ 0x02 ∷ 0x01 ∷ []) 0 2 (0x0b ∷ 0x09 ∷ 0x02 ∷ 0x03 ∷ []) (pageByHttp 9)
+    ∷ oneCall (requestNine 3) (pageByHttp 9) (0x13 ∷ 0x09 ∷ 0x02 ∷ 0x00 ∷ 0x00 ∷ 0x00 ∷ 0x00 ∷ []) 0 2
+    (0x0b ∷ 0x09 ∷ 0x02 ∷ 0x03 ∷ []) (pageByHttp 9)
+    ∷ oneCall [] (pageByHttp 9) (0x23 ∷ 0x09 ∷ 0x02 ∷ 0x00 ∷ []) 0 0 (0x0b ∷ 0x00 ∷ 0x02 ∷ 0x03 ∷ []) (pageByHttp 0)
+    ∷ []
+
+-- ---- number 2
+
+-- the empty record, which is refused with 2 or, where the policy is well formed, with 10
+abbrev pub noRecord : ℕ → List Case
+noRecord number = oneRefused [] [] number ∷ []
+
+-- R with words changed
+unfoldable pub eachGives : ℕ → List (List Words) → Bool
+eachGives number [] = true
+eachGives number (ws ∷ wss) = allRight (policyWith (ws ++ wordsR)) (noRecord number) && eachGives number wss
+
+abbrev pub noPartners : List Words
+noPartners = partner 1 noPartner ∷ partner 3 noPartner ∷ partner 5 noPartner ∷ partner 7 noPartner ∷ partner 8 noPartner ∷ []
+
+abbrev pub notWellFormed : List (List Words)
+notWellFormed =
+    -- a bit that is no host's, lowest and highest
+    (alwaysHttps 0x10002 ∷ [])
+    ∷ (alwaysHttps 0x80000002 ∷ [])
+    -- URL 1 without partner; its partner is an empty row; at another host; by http, another and itself; above 63, also where the words that follow
+    -- the rows would make of it a URL by https at host 1
+    ∷ (partner 1 noPartner ∷ [])
+    ∷ (partner 1 63 ∷ [])
+    ∷ (partner 1 10 ∷ [])
+    ∷ (partner 1 3 ∷ [])
+    ∷ (partner 1 1 ∷ [])
+    ∷ (partner 1 64 ∷ [])
+    ∷ (partner 1 64 ∷ cookieLabel 0 0 17 0 ∷ [])
+    ∷ (partner 1 0x102 ∷ [])
+    ∷ (partner 1 0xffffffff ∷ [])
+    -- a partner where there must be none: by https; at a host that is not listed; on empty rows, also one that is 255 but for a high bit
+    ∷ (partner 2 2 ∷ [])
+    ∷ (partner 9 10 ∷ [])
+    ∷ (partner 11 2 ∷ [])
+    ∷ (partner 63 0 ∷ [])
+    ∷ (partner 11 0x1ff ∷ [])
+    -- the same where no host is listed
+    ∷ (alwaysHttps 0 ∷ [])
+    ∷ (alwaysHttps 0 ∷ noPartners ++ (partner 11 2 ∷ []))
+    ∷ (alwaysHttps 0 ∷ noPartners ++ (partner 63 0x1ff ∷ []))
+    -- a URL without partner at another host that is listed; in the first row and in the last; at the last host
+    ∷ (alwaysHttps 0x6 ∷ [])
+    ∷ (url 0 1 0xffffffff 0xffffffff ∷ [])
+    ∷ (url 63 1 0xffffffff 0xffffffff ∷ [])
+    ∷ (url 63 15 0xffffffff 0xffffffff ∷ alwaysHttps 0x8002 ∷ [])
+    ∷ []
+
+abbrev pub stillWellFormed : List (List Words)
+stillWellFormed =
+    []
+    -- no host need be listed; one that has no URL may be; a partner needs no more readers than any URL, and no writers
+    ∷ (alwaysHttps 0 ∷ noPartners)
+    ∷ (alwaysHttps 0x8002 ∷ [])
+    ∷ (url 2 17 0x2 0 ∷ [])
+    -- the last row may be a partner, and have one
+    ∷ (url 63 17 0x2 0 ∷ partner 1 63 ∷ [])
+    ∷ (url 63 1 0x2 0 ∷ partner 63 2 ∷ [])
+    ∷ []
+
+abbrev pub HttpsCases : Type 0
+HttpsCases = T (
+    allRight policyR (casesOfAsking ++ (casesOfLeaving ++ casesOfArriving))
+    && (eachGives 2 notWellFormed
+    && (eachGives 10 stillWellFormed
+    && (allRight (take 544 policyR) (noRecord 2)
+    && (allRight (take 608 policyR) (noRecord 2)
+    && allRight (policyR ++ (noPartner ∷ [])) (noRecord 2))))))
