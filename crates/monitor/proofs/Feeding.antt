@@ -45,9 +45,9 @@ module _ (p scripts s bytes out : List ℕ) where
 
   -- what a call does by its number
   performed : refusal p scripts s bytes out ≡ accepted → T (areBytes scripts) → T (areWords s) → T (areBytes bytes)
-      → done (perform p scripts s (eventIn bytes)) out ≡ feed p scripts s bytes out
+      → done (perform p scripts s (eventIn p bytes)) out ≡ feed p scripts s bytes out
   unfolding feed outcome branch done
-  performed e ts ws bs = rw (e, written-run (perform p scripts s (eventIn bytes) .sent) out (rw e at (sent-written ts ws bs .0)))
+  performed e ts ws bs = rw (e, written-run (perform p scripts s (eventIn p bytes) .sent) out (rw e at (sent-written ts ws bs .0)))
 
   refused : (k : ℕ) → refusal p scripts s bytes out ≡ k → (k ≡ accepted → ⊥) → refusedWith k s out ≡ feed p scripts s bytes out
   unfolding feed outcome branch stopped writeRun
@@ -62,22 +62,22 @@ module _ (p scripts s bytes out : List ℕ) where
 
   -- ---- what is lent is not refused
   module _ (none : NoneOf (lentRefusals p scripts s out)) where
-    from-record : refusal p scripts s bytes out ≡ firstOf (readRefusals Input bytes) (firstOf (eventRefusals p s (eventIn bytes)) accepted)
+    from-record : refusal p scripts s bytes out ≡ firstOf (readRefusals Input bytes) (firstOf (eventRefusals p s (eventIn p bytes)) accepted)
     from-record = in-parts p scripts s bytes out ∙ none-applies _ (lentRefusals p scripts s out) none
 
     pub refused-record : (decoded Input bytes .number ≡ accepted → ⊥) → refusedWith (decoded Input bytes .number) s out ≡ feed p scripts s bytes out
     unfolding decoded readRefusal
     refused-record other = refused (readRefusal Input bytes) (from-record ∙ refused-on (readRefusals Input bytes) _ other) other
 
-    from-event : decoded Input bytes .number ≡ accepted → refusal p scripts s bytes out ≡ firstOf (eventRefusals p s (eventIn bytes)) accepted
+    from-event : decoded Input bytes .number ≡ accepted → refusal p scripts s bytes out ≡ firstOf (eventRefusals p s (eventIn p bytes)) accepted
     unfolding decoded readRefusal
     from-event read = from-record ∙ none-applies _ (readRefusals Input bytes) (none-applied (readRefusals Input bytes) tt read)
 
     pub reacted : decoded Input bytes .number ≡ accepted → T (areBytes scripts) → T (areWords s) → T (areBytes bytes)
-        → reaction p scripts s (eventIn bytes) out ≡ feed p scripts s bytes out
+        → reaction p scripts s (eventIn p bytes) out ≡ feed p scripts s bytes out
     unfolding reaction byNumber
     reacted read ts ws bs =
-        let number = firstOf (eventRefusals p s (eventIn bytes)) accepted in
+        let number = firstOf (eventRefusals p s (eventIn p bytes)) accepted in
         one (λ (x : Fed). x ≡ feed p scripts s bytes out) (eqb number accepted)
         (λ t. performed (from-event read ∙ eqb→eq number accepted t) ts ws bs)
         (λ t. refused number (from-event read) (λ e. T-not (eqb number accepted) t (rw e tt)))

@@ -1,6 +1,7 @@
 // The refusals of what is lent, that of a malformed record, and then what the record's kind asks and does.
 ghost use mathlib.Core.Path.{_≡_};
 ghost use Rattle.machine.specs.Machine.{plainMap, arrivedOf, eventOf, feed};
+ghost use Rattle.policy.specs.Given.{WellFormed};
 ghost use Rattle.monitor.specs.Answers.{fed, reaction};
 ghost use Rattle.monitor.specs.Events.{told};
 ghost use Rattle.monitor.specs.Given.{Lent};
@@ -16,6 +17,7 @@ use super::events::Delivery;
 use super::events::arrive;
 use super::events::load;
 use policy::check::well_formed;
+use policy::upgraded;
 use records::Direction;
 use records::LONGEST_REQUEST;
 use records::Record;
@@ -39,8 +41,9 @@ fn plain_map(map: u8) -> u8
 }
 
 // What a record that is no load tells of.
-fn arrived_of(fields: Record) -> Arrived
-    ensures { λ r. ⌜ told r ≡ arrivedOf fields ⌝ }
+fn arrived_of(policy: &[u32], fields: Record) -> Arrived
+    requires { ⌜ WellFormed (now policy) ⌝ }
+    ensures { λ r. ⌜ told r ≡ arrivedOf (now (policy .entry)) fields ⌝ }
 {
     let plain = plain_map(fields.map);
     if plain == DOCUMENT_RESPONSE {
@@ -52,19 +55,19 @@ fn arrived_of(fields: Record) -> Arrived
     if plain == PICTURE_RESPONSE {
         return Arrived::PictureResponse;
     }
-    Arrived::Redirect(fields.target as usize)
+    Arrived::Redirect(upgraded(policy, fields.target as usize))
 }
 
 // A record that can be read.
 fn react(policy: &[u32], scripts: &[u8], state: &mut [u32], fields: Record, out: &mut [u8]) -> Done
     requires { ⌜ Lent (now policy) (now scripts) (now state) ⌝ }
     ensures { λ r. ⌜ fed r (now (state .exit)) (now (out .exit))
-        ≡ reaction (now (policy .entry)) (now (scripts .entry)) (now (state .entry)) (eventOf fields) (now (out .entry)) ⌝ }
+        ≡ reaction (now (policy .entry)) (now (scripts .entry)) (now (state .entry)) (eventOf (now (policy .entry)) fields) (now (out .entry)) ⌝ }
 {
     let url = fields.url as usize;
     let connection = fields.connection as usize;
     if plain_map(fields.map) == LOAD {
-        return load(policy, state, url, connection, out);
+        return load(policy, state, upgraded(policy, url), connection, out);
     }
     let cookies = fields.cookies;
     let from = Delivery {
@@ -73,7 +76,14 @@ fn react(policy: &[u32], scripts: &[u8], state: &mut [u32], fields: Record, out:
         keys: fields.keys,
         cookies,
     };
-    arrive(policy, scripts, state, from, arrived_of(fields), out)
+    arrive(
+        policy,
+        scripts,
+        state,
+        from,
+        arrived_of(policy, fields),
+        out,
+    )
 }
 
 pub fn feed(policy: &[u32], scripts: &[u8], state: &mut [u32], bytes: &[u8], out: &mut [u8]) -> Done

@@ -1,17 +1,17 @@
 -- The rows of a policy: a test of the address settles whether one is well formed, and whether it is empty.
 use Rattle.prelude.proofs.Kit.{ℕ, _≤_, _<_, _+_, _^_, arith, true, _&&_, false, not, and-assoc, List, ⊎-elim, _≡_, sym, _∙_, subst, ne-eqb}
-use Rattle.prelude.proofs.Kit.{le-ltb, lt-ltb, eq-eqb, T, eqb, ltb, ltb→lt, T-not, length, and-r, and-l}
+use Rattle.prelude.proofs.Kit.{le-ltb, lt-ltb, eq-eqb, T, eqb, ltb, ltb→lt, T-not, length, and-l}
 use mathlib.Core.Bool.{or-false}
 use lib.Dec.{leb, leb→le, le→leb}
 use borrow.Author.Tests.{leb-true}
-use Rattle.prelude.proofs.Choices.{is-true}
+use Rattle.prelude.proofs.Choices.{is-true, parts}
 use Rattle.labels.specs.Membership.{endpoints, allBelow}
 use Rattle.labels.specs.Sets.{holds, within}
-use Rattle.labels.specs.Addresses.{eventSet}
+use Rattle.labels.specs.Addresses.{hosts, eventSet}
 use Rattle.labels.proofs.Below.{same, all-at, all-of, or-cases, or-l}
 use Rattle.labels.proofs.Endpoints.{event-within}
 use Rattle.labels.proofs.Words.{within-none}
-use Rattle.machine.specs.Policy.{policyWords, urlRows, connections, urlAddress, urlReaders, urlWriters, urlEvent, noAddress, emptyRow, rowWellFormed, connectionWellFormed, wellFormed, isUrl}
+use Rattle.machine.specs.Policy.{policyWords, urlRows, connections, urlAddress, urlReaders, urlWriters, urlEvent, httpsHosts, noAddress, emptyRow, isUrl, rowWellFormed, connectionWellFormed, partnerWellFormed, wellFormed}
 use Rattle.policy.specs.Given.{WellFormed, Url}
 
 module _ (p : List ℕ) (u : ℕ) where
@@ -40,9 +40,7 @@ module _ (p : List ℕ) (u : ℕ) where
   row-formed : T (wellFormed p) → u < urlRows → T (rowWellFormed p u)
   unfolding wellFormed
   row-formed t l =
-      all-at urlRows (rowWellFormed p)
-      (and-l (allBelow urlRows (rowWellFormed p)) (allBelow connections (connectionWellFormed p))
-      (and-r (eqb (length p) policyWords) (allBelow urlRows (rowWellFormed p) && allBelow connections (connectionWellFormed p)) t)) u l
+      all-at urlRows (rowWellFormed p) (search parts) u l
 
   -- whether a number names a URL
   pub url-beyond : urlRows ≤ u → false ≡ isUrl p u
@@ -85,9 +83,11 @@ module _ (p : List ℕ) where
   unfolding wellFormed
   formed-length ne = rw (ne-eqb (length p) policyWords ne)
 
-  pub formed-parts : length p ≡ policyWords → allBelow urlRows (rowWellFormed p) && allBelow connections (connectionWellFormed p) ≡ wellFormed p
+  pub formed-parts : length p ≡ policyWords
+      → (allBelow urlRows (rowWellFormed p) && allBelow connections (connectionWellFormed p)) && (ltb (httpsHosts p) (2 ^ hosts) && allBelow urlRows (partnerWellFormed p))
+      ≡ wellFormed p
   unfolding wellFormed
-  formed-parts e = rw (eq-eqb (length p) policyWords e)
+  formed-parts e = simp and-assoc (rw (eq-eqb (length p) policyWords e))
 
   pub formed-given : length p ≡ policyWords → wellFormed p ≡ true → WellFormed p
   formed-given e t = record { long = e; formed = subst T (sym t) tt }

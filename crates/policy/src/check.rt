@@ -1,26 +1,36 @@
 // Whether a policy is well formed (document 01, "The policy"): refusal 2.
 ghost use mathlib.Core.Path.{_≡_};
 ghost use mathlib.Core.Bool.{true, _&&_};
-ghost use Prim.Native.Nat.{_+_, _*_, _<_, _≤_};
-ghost use lib.Dec.{eqb};
+ghost use Prim.Native.Nat.{_+_, _*_, _^_, _<_, _≤_};
+ghost use lib.Dec.{eqb, ltb};
 ghost use lib.ListN.{length, getD};
 ghost use Rattle.labels.specs.Membership.{allBelow};
-ghost use Rattle.machine.specs.Policy.{policyWords, urlRows, connections, emptyRow, rowWellFormed, connectionWellFormed, wellFormed};
+ghost use Rattle.labels.specs.Addresses.{hosts};
+ghost use Rattle.machine.specs.Policy.{policyWords, urlRows, connections, httpsHosts};
+ghost use Rattle.machine.specs.Policy.{emptyRow, rowWellFormed, connectionWellFormed, isReplaced, isPartner, partnerWellFormed, wellFormed};
 ghost use Rattle.policy.specs.Given.{WellFormed};
 use super::words::CONNECTIONS;
+use super::words::NO_PARTNER;
 use super::words::URL_ROWS;
 use super::words::WORDS;
 use super::words::connection_readers;
+use super::words::https_hosts;
+use super::words::https_word;
 use super::words::script_readers;
 use super::words::url_address;
+use super::words::url_partner;
 use super::words::url_readers;
 use super::words::url_writers;
 use labels::EndpointSet;
 use labels::LAST_ENDPOINT;
+use labels::addresses::HOSTS;
 use labels::addresses::event_set;
 
 // The address of an empty row, whose sets are empty.
 const NO_ADDRESS: u32 = 255;
+
+// A word of hosts is below this: it has no bit but theirs.
+const HOSTS_END: u32 = 0x1_0000;
 
 // Rows are asked in groups of so many.
 const GROUP: usize = 8;
@@ -115,11 +125,82 @@ fn connections_well_formed(policy: &[u32]) -> bool
     passed
 }
 
+// Where no host is listed: whether no URL has a partner.
+fn no_partners(policy: &[u32]) -> bool
+    requires { ⌜ (length (now policy) ≡ policyWords) × (httpsHosts (now policy) ≡ 0) ⌝ }
+    ensures { λ r. ⌜ r ≡ allBelow urlRows (partnerWellFormed (now (policy .entry))) ⌝ }
+{
+    let mut passed = true;
+    for url in 0..URL_ROWS {
+        passed = (url_partner(policy, url) == NO_PARTNER) & passed;
+    }
+    passed
+}
+
+// Whether a URL is by http, at a host that is always https.
+fn is_replaced(policy: &[u32], url: usize) -> bool
+    requires { ⌜ (length (now policy) ≡ policyWords) × (url < urlRows) ⌝ }
+    ensures { λ r. ⌜ r ≡ isReplaced (now (policy .entry)) url ⌝ }
+{
+    let address = url_address(policy, url);
+    if HOSTS <= address {
+        return false;
+    }
+    event_set(address).within(https_hosts(policy))
+}
+
+// Whether a number names a URL by https at the host of `url`.
+fn is_partner(policy: &[u32], url: usize, partner: usize) -> bool
+    requires { ⌜ (length (now policy) ≡ policyWords) × (url < urlRows) ⌝ }
+    ensures { λ r. ⌜ r ≡ isPartner (now (policy .entry)) url partner ⌝ }
+{
+    if URL_ROWS <= partner {
+        return false;
+    }
+    url_address(policy, partner) == HOSTS + url_address(policy, url) % HOSTS
+}
+
+fn partner_well_formed(policy: &[u32], url: usize) -> bool
+    requires { ⌜ (length (now policy) ≡ policyWords) × (url < urlRows) ⌝ }
+    ensures { λ r. ⌜ r ≡ partnerWellFormed (now (policy .entry)) url ⌝ }
+{
+    let partner = url_partner(policy, url);
+    if is_replaced(policy, url) {
+        return is_partner(policy, url, partner as usize);
+    }
+    partner == NO_PARTNER
+}
+
+fn partners_well_formed(policy: &[u32]) -> bool
+    requires { ⌜ length (now policy) ≡ policyWords ⌝ }
+    ensures { λ r. ⌜ r ≡ allBelow urlRows (partnerWellFormed (now (policy .entry))) ⌝ }
+{
+    for url in 0..URL_ROWS {
+        if !partner_well_formed(policy, url) {
+            return false;
+        }
+    }
+    true
+}
+
+// Where no host is listed, as in policy P, the partners are asked without looking at the rows.
+fn https_well_formed(policy: &[u32]) -> bool
+    requires { ⌜ length (now policy) ≡ policyWords ⌝ }
+    ensures { λ r. ⌜ r
+        ≡ ltb (httpsHosts (now (policy .entry))) (2 ^ hosts) && allBelow urlRows (partnerWellFormed (now (policy .entry))) ⌝ }
+{
+    let hosts = https_word(policy);
+    if hosts == 0 {
+        return no_partners(policy);
+    }
+    (hosts < HOSTS_END) & partners_well_formed(policy)
+}
+
 pub fn well_formed(policy: &[u32]) -> bool
     ensures { λ r. ⌜ (r ≡ wellFormed (now (policy .entry))) × (r ≡ true → WellFormed (now (policy .entry))) ⌝ }
 {
     if policy.len() != WORDS {
         return false;
     }
-    rows_well_formed(policy) & connections_well_formed(policy)
+    rows_well_formed(policy) & connections_well_formed(policy) & https_well_formed(policy)
 }

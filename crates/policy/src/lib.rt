@@ -5,7 +5,7 @@ ghost use mathlib.Core.Bool.{true};
 ghost use Prim.Native.Nat.{_<_};
 ghost use Rattle.labels.specs.Addresses.{hosts};
 ghost use Rattle.labels.specs.Sets.{holds};
-ghost use Rattle.machine.specs.Policy.{hostKeys, connections, cookieIndex, urlHost, urlMessage, urlEvent, isUrl};
+ghost use Rattle.machine.specs.Policy.{hostKeys, connections, cookieIndex, urlHost, urlMessage, urlEvent, isUrl, upgraded};
 ghost use Rattle.machine.specs.Policy.{fits, mayStore, mayCarry, mayRead, mayWrite, maySend};
 ghost use Rattle.machine.specs.Policy.{loadReaders, loadWriters, redirectReaders, redirectWriters};
 ghost use Rattle.machine.specs.Session.{keyMap};
@@ -20,6 +20,7 @@ use labels::addresses::event_set;
 use labels::addresses::message_set;
 use words::HOST_KEYS;
 use words::HOSTS;
+use words::NO_PARTNER;
 use words::URL_ROWS;
 use words::connection_readers;
 use words::connection_writers;
@@ -27,6 +28,7 @@ use words::cookie_readers;
 use words::cookie_writers;
 use words::script_readers;
 use words::url_address;
+use words::url_partner;
 use words::url_readers;
 use words::url_writers;
 
@@ -39,6 +41,21 @@ pub fn is_url(policy: &[u32], url: usize) -> bool
         return false;
     }
     url_address(policy, url) <= LAST_ENDPOINT
+}
+
+// What is asked for in place of a number: the partner of a URL that has one.
+pub fn upgraded(policy: &[u32], url: usize) -> usize
+    requires { ⌜ WellFormed (now policy) ⌝ }
+    ensures { λ r. ⌜ r ≡ upgraded (now (policy .entry)) url ⌝ }
+{
+    if URL_ROWS <= url {
+        return url;
+    }
+    let partner = url_partner(policy, url);
+    if partner == NO_PARTNER {
+        return url;
+    }
+    partner as usize
 }
 
 pub fn url_host(policy: &[u32], url: usize) -> usize

@@ -5,7 +5,7 @@ ghost use lib.ListN.{length};
 ghost use Rattle.labels.specs.Addresses.{hosts};
 ghost use Rattle.machine.specs.Policy.{policyWords, urlRows, hostKeys, connections, cookieIndex};
 ghost use Rattle.machine.specs.Policy.{urlAddress, urlReaders, urlWriters, cookieReaders, cookieWriters};
-ghost use Rattle.machine.specs.Policy.{connectionReaders, scriptReaders, connectionWriters};
+ghost use Rattle.machine.specs.Policy.{connectionReaders, scriptReaders, connectionWriters, httpsHosts, urlPartner};
 use labels::EndpointSet;
 
 pub const URL_ROWS: usize = 64;
@@ -21,7 +21,14 @@ const COOKIE_LABELS_AT: usize = 3 * URL_ROWS;
 
 const CONNECTION_LABELS_AT: usize = COOKIE_LABELS_AT + 2 * (HOSTS * HOST_KEYS);
 
-pub const WORDS: usize = CONNECTION_LABELS_AT + 3 * CONNECTIONS;
+const HTTPS_HOSTS_AT: usize = CONNECTION_LABELS_AT + 3 * CONNECTIONS;
+
+pub const PARTNERS_AT: usize = HTTPS_HOSTS_AT + 1;
+
+pub const WORDS: usize = PARTNERS_AT + URL_ROWS;
+
+// The partner of a URL that has none.
+pub const NO_PARTNER: u32 = 255;
 
 pub fn url_address(policy: &[u32], url: usize) -> u32
     requires { ⌜ (length (now policy) ≡ policyWords) × (url < urlRows) ⌝ }
@@ -92,4 +99,28 @@ pub fn connection_writers(policy: &[u32], connection: usize) -> EndpointSet
     EndpointSet {
         bits: policy[CONNECTION_LABELS_AT + 3 * connection + 2],
     }
+}
+
+// The word of the hosts that are always https, and the set of their http endpoints, which it is.
+pub fn https_word(policy: &[u32]) -> u32
+    requires { ⌜ length (now policy) ≡ policyWords ⌝ }
+    ensures { λ r. ⌜ r ≡ httpsHosts (now (policy .entry)) ⌝ }
+{
+    policy[HTTPS_HOSTS_AT]
+}
+
+pub fn https_hosts(policy: &[u32]) -> EndpointSet
+    requires { ⌜ length (now policy) ≡ policyWords ⌝ }
+    ensures { λ r. ⌜ r .bits ≡ httpsHosts (now (policy .entry)) ⌝ }
+{
+    EndpointSet {
+        bits: https_word(policy),
+    }
+}
+
+pub fn url_partner(policy: &[u32], url: usize) -> u32
+    requires { ⌜ (length (now policy) ≡ policyWords) × (url < urlRows) ⌝ }
+    ensures { λ r. ⌜ r ≡ urlPartner (now (policy .entry)) url ⌝ }
+{
+    policy[PARTNERS_AT + url]
 }

@@ -4,7 +4,7 @@ use Rattle.prelude.proofs.Kit.{ne-eqb, le-ltb, lt-ltb, getD, set}
 use borrow.Author.Tests.{ltb-true}
 use Rattle.prelude.specs.Choice.{branch}
 use Rattle.prelude.proofs.Choices.{chosen, left-out}
-use Rattle.machine.specs.Policy.{hostKeys, cookieIndex, urlHost, isUrl, isConnection, mayRead, mayWrite, maySend}
+use Rattle.machine.specs.Policy.{hostKeys, cookieIndex, urlHost, isUrl, upgraded, isConnection, mayRead, mayWrite, maySend}
 use Rattle.machine.specs.Session.{pictureKind, cookieValue, present, packed, setCookie, setConnection, request, send}
 use Rattle.machine.specs.Scripts.{Progress, scriptSteps, registerCount, register, isRegister, isKey, isScript, end, readCookie, writeCookie, sendPicture, goesOn, goesOnAfter, ended, requested, step, stepOf, stepAt}
 use Rattle.session.specs.Output.{Output, output, writeNext, writeEach}
@@ -139,8 +139,8 @@ module _ (p : List ℕ) (n i : ℕ) (rs s : List ℕ) (kind origin h u m : ℕ) 
       chosen true _ _ _ (rw (tu, lt-ltb m 32 lm, lt-ltb h 16 lh, tm)) refl refl in
       rw (← allowed, e, add-zero (suc i), et, eo)
 
--- step 7 requests what has the picture's kind, and neither origin nor handler
+-- step 7 requests what has the picture's kind, and neither origin nor handler, of the URL that is asked for in place of its own
 pub pictured : (p : List ℕ) (n page i : ℕ) (rs s : List ℕ) (u m : ℕ) (o : Output) {x : Reached} {kind origin h url : ℕ} → x ≡ after (requested p n kind origin h url m i rs s) o
-    → kind ≡ pictureKind → origin ≡ 0 → h ≡ 0 → url ≡ u → x ≡ after (step p n page (sendPicture u m) i rs s) o
+    → kind ≡ pictureKind → origin ≡ 0 → h ≡ 0 → url ≡ upgraded p u → x ≡ after (step p n page (sendPicture u m) i rs s) o
 unfolding step
 pictured p n page i rs s u m o e ek eo eh eu = e ∙ rw (ek, eo, eh, eu)

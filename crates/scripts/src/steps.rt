@@ -19,6 +19,7 @@ use policy::is_url;
 use policy::may_read;
 use policy::may_send;
 use policy::may_write;
+use policy::upgraded;
 use policy::url_host;
 use policy::words::CONNECTIONS;
 use policy::words::HOST_KEYS;
@@ -238,13 +239,13 @@ pub fn step(
                 kind: SCRIPT,
                 origin: page,
                 handler: c,
-                url: a,
+                url: upgraded(policy, a),
             };
             send_request(policy, state, connection, position, b, pending, out)
         }
         6 => skip_if_zero(registers, position, a, b),
         7 => {
-            let pending = Pending::bare(PICTURE, a);
+            let pending = Pending::bare(PICTURE, upgraded(policy, a));
             send_request(policy, state, connection, position, b, pending, out)
         }
         _ => position.ended(),

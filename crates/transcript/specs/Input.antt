@@ -18,7 +18,7 @@ use Rattle.transcript.specs.declared.input.Next.the-variants.{Record, La
 abbrev pub policyBytes : ℕ
 policyBytes = 4 * policyWords
 
--- the place of the first length byte: 4,224
+-- the place of the first length byte: 4,484
 abbrev pub recordsAt : ℕ
 recordsAt = policyBytes + tableBytes
 

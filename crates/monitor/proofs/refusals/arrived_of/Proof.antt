@@ -20,8 +20,8 @@ returns-3 c = let m = c .before .before .before in rw (← m .plain-map .ensures
 returns-4 : tie.Need-returns-4
 unfolding arrivedOf branch
 returns-4 c =
-    let m = c .before .before .before .before in
-    rw (← m .plain-map .ensures, ne-eqb _ _ (c .before .before .before .if1 .left), ne-eqb _ _ (c .before .before .if2 .left), ne-eqb _ _ (c .before .if3 .left))
+    let m = c .before .before .before .before .before in
+    rw (← m .plain-map .ensures, ne-eqb _ _ (c .before .before .before .before .if1 .left), ne-eqb _ _ (c .before .before .before .if2 .left), ne-eqb _ _ (c .before .before .if3 .left), c .upgraded .ensures)
 
 pub arrived-of-spec : {M : Type 1} → statement M
-arrived-of-spec = tie.close (tie.spec (λ c κs. search needs) (λ c. search needs) returns returns-2 returns-3 (λ c. search needs) returns-4)
+arrived-of-spec = tie.close (tie.spec (λ c κs. search needs) (λ c. search needs) returns returns-2 returns-3 (λ c. search needs) (λ c κs. search needs) returns-4)

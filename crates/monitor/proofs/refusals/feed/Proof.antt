@@ -120,7 +120,7 @@ returns-6 c =
     let a = begin m .args in
     let number = ap (λ (d : Decoded). d .number) (read .decode .ensures) in
     call .react .ensures
-    ∙ ap (λ (d : Decoded). reaction (now (a .policy)) (now (a .scripts)) (now (a .state)) (eventOf (d .fields)) (now (a .out))) (read .decode .ensures)
+    ∙ ap (λ (d : Decoded). reaction (now (a .policy)) (now (a .scripts)) (now (a .state)) (eventOf (now (a .policy)) (d .fields)) (now (a .out))) (read .decode .ensures)
     ∙ reacted (now (a .policy)) (now (a .scripts)) (now (a .state)) (now (a .bytes)) (now (a .out)) (state m) (sym number ∙ last .if5 .left)
     (bytes-are (now (a .scripts)) (λ i. lengths .before .before .before .shared-slice-known2 .given i .fits)) (words-are (now (a .state)) (λ i. lengths .before .before .slice-known .given i .fits))
     (bytes-are (now (a .bytes)) (λ i. lengths .before .shared-slice-known3 .given i .fits))

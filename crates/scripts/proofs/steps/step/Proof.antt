@@ -1,5 +1,5 @@
 -- `steps::step` meets its contract: the step of the four bytes at the place, by its operation.
-use Rattle.prelude.proofs.Kit.{ℕ, _≤_, arith, List, _≡_, _∙_, refl, needs, now, length}
+use Rattle.prelude.proofs.Kit.{ℕ, _≤_, arith, List, _≡_, sym, _∙_, refl, needs, now, length}
 use Rattle.prelude.specs.Choice.{branch}
 use Rattle.machine.specs.Scripts.{Step, step, stepOf, stepAt, goesOn}
 use Rattle.session.specs.Output.{output}
@@ -70,9 +70,10 @@ returns-4 c =
 returns-5 : tie.Need-returns-5
 unfolding stepOf branch step
 returns-5 c =
-    let m = c .before .before .before .before .before .before .before in
-    let call = c .before .before .before .before .send-request in
-    (rw (at-place (m .before) 5 (m .match .keys5)) (call .ensures .0 (now (start (m .before) .args .registers))), call .ensures .1)
+    let call = c .before .before .before .before in
+    let asked = call .before .before .before in
+    let m = asked .before in
+    (rw (at-place (m .before) 5 (m .match .keys5), sym (asked .upgraded .ensures)) (call .send-request .ensures .0 (now (start (m .before) .args .registers))), call .send-request .ensures .1)
 
 returns-6 : tie.Need-returns-6
 unfolding stepOf branch
@@ -86,7 +87,7 @@ returns-6 c =
 picture-requires : tie.Need-send-request-requires-2
 picture-requires c κs =
     let made = c .before .before in
-    let (script, code, registers, place, written) = start (made .before .before) .pre in
+    let (script, code, registers, place, written) = start (made .before .before .before) .pre in
     (script .session, script .connection, omega (arith, made .bare .ensures .0), omega (arith, made .bare .ensures .1), place, written)
 
 returns-7 : tie.Need-returns-7
@@ -94,12 +95,13 @@ unfolding stepOf branch
 returns-7 c =
     let call = c .before .before .before .before in
     let made = call .before .before .before in
-    let m = made .before in
+    let asked = made .before in
+    let m = asked .before in
     let a = start (m .before) .args in
     let (kind, origin, handler, url) = made .bare .ensures in (
       rw (at-place (m .before) 7 (m .match .keys7))
           (pictured (now (a .policy)) (a .connection) (a .page) (a .position .place) (now (a .registers)) (now (a .state)) (m .before .before .before .byte2 .result) (m .before .before .byte3 .result) (output (a .position .written) (now (a .out)))
-          (call .send-request2 .ensures .0 (now (a .registers))) kind origin handler url),
+          (call .send-request2 .ensures .0 (now (a .registers))) kind origin handler (url ∙ asked .upgraded2 .ensures)),
       call .send-request2 .ensures .1,
     )
 
@@ -116,4 +118,4 @@ returns-8 c =
 
 pub step-spec : {M : Type 1} → statement M
 step-spec =
-    tie.close (tie.spec (λ c. search needs) (λ c κs. search needs) (λ c. search needs) (λ c κs. search needs) (λ c. search needs) (λ c κs. search needs) (λ c. search needs) (λ c κs. search needs) (λ c. search needs) (λ c. search needs) (λ c. search needs) (λ c κs. search needs) (λ c κs. search needs) (λ c κs. search needs) (λ c κs. search needs) (λ c κs. search needs) (λ c κs. search needs) (λ c κs. search needs) picture-requires (λ c κs. search needs) (λ c. search needs) returns (λ c. search needs) returns-2 (λ c. search needs) (λ c. search needs) returns-3 (λ c. search needs) (λ c. search needs) returns-4 (λ c. search needs) (λ c. search needs) returns-5 (λ c. search needs) returns-6 (λ c. search needs) (λ c. search needs) returns-7 returns-8)
+    tie.close (tie.spec (λ c. search needs) (λ c κs. search needs) (λ c. search needs) (λ c κs. search needs) (λ c. search needs) (λ c κs. search needs) (λ c. search needs) (λ c κs. search needs) (λ c. search needs) (λ c. search needs) (λ c. search needs) (λ c κs. search needs) (λ c κs. search needs) (λ c κs. search needs) (λ c κs. search needs) (λ c κs. search needs) (λ c κs. search needs) (λ c κs. search needs) (λ c κs. search needs) (λ c κs. search needs) picture-requires (λ c κs. search needs) (λ c. search needs) returns (λ c. search needs) returns-2 (λ c. search needs) (λ c. search needs) returns-3 (λ c. search needs) (λ c. search needs) returns-4 (λ c. search needs) (λ c. search needs) returns-5 (λ c. search needs) returns-6 (λ c. search needs) (λ c. search needs) returns-7 returns-8)
