@@ -6,7 +6,10 @@ use libc::STDIN_FILENO;
 use libc::STDOUT_FILENO;
 use monitor::Answer;
 use monitor::OUTPUT_ROOM;
+use policy::words::NO_PARTNER;
+use policy::words::PARTNERS_AT;
 use policy::words::URL_ROWS;
+use policy::words::WORDS;
 use scripts::TABLE_BYTES;
 
 // Room for standard input; what does not fit would be missing from the output.
@@ -18,7 +21,7 @@ const RECORD_ROOM: usize = 300;
 // Every other buffer has room for so much more than is right.
 const SPARE: usize = 128;
 
-const POLICY_ROOM: usize = policy::words::WORDS + SPARE;
+const POLICY_ROOM: usize = WORDS + SPARE;
 
 const STEP_ROOM: usize = TABLE_BYTES / 4 + SPARE;
 
@@ -92,16 +95,20 @@ fn reset(words: &mut [u32]) {
     }
 }
 
-// No URL (address 255 in each row), all else 0; the right lengths.
+// No URL (address 255 in each row) and no partner (255 for each URL), all else 0; the right lengths.
 fn first_word(i: usize) -> u32 {
     if i < 3 * URL_ROWS {
         return if i % 3 == 0 { 255 } else { 0 };
     }
     if i < LENGTHS {
-        return 0;
+        return if (PARTNERS_AT <= i) & (i < WORDS) {
+            NO_PARTNER
+        } else {
+            0
+        };
     }
     match i - LENGTHS {
-        0 => policy::words::WORDS as u32,
+        0 => WORDS as u32,
         1 => TABLE_BYTES as u32,
         2 => session::words::WORDS as u32,
         3 => OUTPUT_ROOM as u32,
