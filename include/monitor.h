@@ -38,9 +38,12 @@ enum {
     /* words 0 to 191: 64 URLs of address (0 to 31), readers, writers; no URL: 255, 0, 0, all three
      * words 192 to 447: readers, writers of the cookie of host h (0 to 15) and key k (0 to 7), at 192 + 2 * (8 * h + k)
      * words 448 to 543: 32 connections of readers, script readers, writers
-     * Well formed: each URL has its event endpoint among its readers, and each connection's script readers are within its readers. Nothing
-     * else is asked, and any set may be empty. A policy of zeros is not well formed: it has 64 URLs without readers. */
-    MONITOR_POLICY_WORDS = 544,
+     * word 544: the hosts that are always https, bit h for host h, bits 16 to 31 zero (see Hosts that are always https below)
+     * words 545 to 608: the partner of each of the 64 URLs, a URL by https; 255 where it has none
+     * Well formed: each URL has its event endpoint among its readers; each connection's script readers are within its readers; each URL by
+     * http at a host that is always https has a partner at the same host, and no other row has one, whether it is a URL or not. Nothing else
+     * is asked, and any set may be empty. A policy of zeros is not well formed: it has 64 URLs without readers. */
+    MONITOR_POLICY_WORDS = 609,
     /* 16 scripts of 32 steps of 4 bytes: op, a, b, c */
     MONITOR_SCRIPT_BYTES = 2048,
     /* words 0 to 127: cookie values, at 8 * h + k; words 128 to 143: for each host, the keys present as bits 0 to 7
@@ -66,7 +69,8 @@ enum monitor_number {
     /* the output has fewer than MONITOR_OUT_BYTES bytes, however few this record needs */
     MONITOR_OUTPUT_SHORT = 1,
     /* the policy does not have its length, or is not well formed: a URL with an address above 31 or without its event endpoint (http at
-     * its host) among its readers, or a connection with script readers that are not among its readers */
+     * its host) among its readers; a connection with script readers that are not among its readers; a bit above 15 in the word of hosts;
+     * a URL by http at a listed host whose partner is not a URL by https at that host; or a partner of any other row but 255 */
     MONITOR_POLICY_BAD = 2,
     /* the script table does not have its length */
     MONITOR_SCRIPTS_BAD = 3,
@@ -87,7 +91,7 @@ enum monitor_number {
     /* a response or redirect on a connection that is free or holds another URL, or a response of another kind than the connection */
     MONITOR_NOT_AWAITED = 7,
     /* readers forbid it: a load's connection has readers that the URL does not have; or a redirect's connection has readers that the
-     * target does not have, or lacks the target's event endpoint */
+     * target does not have, or lacks the target's event endpoint. URL and target are those that are asked for, here and in 9 */
     MONITOR_READERS_FORBID = 8,
     /* writers forbid it: the message endpoint (the address itself) of a load's URL or a redirect's target is not among the connection's
      * writers; or a redirect's connection has writers that the target does not have */
@@ -126,6 +130,11 @@ struct monitor_answer {
  *                 is the connection's origin, and register 0 is the value.
  *     redirect    Its cookies are stored. The connection moves to the target and keeps kind, origin and handler, and a request of its kind goes
  *                 out to the target, a script request with the connection's handler.
+ *
+ * Hosts that are always https (RFC 6797). Where a load, a redirect's target or step 5 or 7 names a URL that has a partner, the partner is asked
+ * for in its place, before anything else is asked: its sets decide, it is in the request and in the connection's word, and its cookies are
+ * carried. So no request goes by http to a listed host. What arrives then names the partner: a response or redirect for the URL by http gets 7.
+ * The page of a script is never replaced.
  *
  * Cookies. One that a response or redirect delivers belongs to the host of the record's URL, which for a redirect is the URL that it leaves.
  * It is stored if its readers are within the connection's and the connection's writers are within its own; else it is passed over, and the

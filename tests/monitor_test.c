@@ -1,6 +1,6 @@
-/* Links libmonitor.a: document 01's small post case by case, a script that is stopped on one connection and goes on on another, pictures, the
- * endpoints of every address, every wrong length of every buffer, null pointers, and random records. Every call is checked for what it must leave
- * alone. */
+/* Links libmonitor.a: document 01's small post case by case, a script that is stopped on one connection and goes on on another, pictures, hosts that
+ * are always https, the endpoints of every address, every wrong length of every buffer, null pointers, and random records. Every call is checked for
+ * what it must leave alone. */
 #include <inttypes.h>
 #include <stdbool.h>
 #include <stdio.h>
@@ -14,6 +14,8 @@
 enum { SPARE = 64, LONGEST = 255 };
 /* steps of a script, and bytes of one */
 enum { STEPS = 32, SCRIPT = 4 * STEPS };
+/* in a policy, the partners of the URLs and before them the word of https hosts */
+enum { URLS = 64, PARTNERS = MONITOR_POLICY_WORDS - URLS, HTTPS_HOSTS = PARTNERS - 1, NO_PARTNER = 255 };
 
 struct buffers {
     uint32_t policy[MONITOR_POLICY_WORDS + SPARE];
@@ -126,8 +128,9 @@ static void small_post(void)
     memset(lent.policy, 0, MONITOR_POLICY_WORDS * sizeof *lent.policy);
     memset(lent.scripts, 0, MONITOR_SCRIPT_BYTES);
     memset(lent.state, 0, MONITOR_STATE_WORDS * sizeof *lent.state);
-    for (size_t url = 0; url < 64; url++) {
+    for (size_t url = 0; url < URLS; url++) {
         lent.policy[3 * url] = 255;
+        lent.policy[PARTNERS + url] = NO_PARTNER;
     }
     set_words(lent.policy, 0, 12, urls);
     set_words(lent.policy, 192, 2, cookie);
@@ -255,6 +258,133 @@ static void pictures(void)
         lent.state[144] = unsound[i];
         gives("a picture with a handler, an origin or no URL, or kind 4", BYTES(0x43, 0, 0), REFUSED(MONITOR_STATE_UNSOUND), NOTHING);
     }
+}
+
+/* ---- hosts that are always https */
+
+/* Lists host 0 of policy P: URL 0, https, is the partner of URL 3, http. */
+static void list_host_0(void)
+{
+    lent.policy[HTTPS_HOSTS] = 1;
+    lent.policy[PARTNERS + 3] = 0;
+}
+
+/* What is asked for at URL 3 goes to URL 0, and its response names URL 0. */
+static void upgrades(void)
+{
+    static const uint8_t requests_3[] = {5, 3, 0, 9, 7, 3, 0, 255}, requests_67[] = {5, 67, 0, 9}, picture_of_67[] = {7, 67, 0, 9};
+    small_post();
+    list_host_0();
+    gives("a load that goes to the partner", BYTES(0x03, 3, 0), ACCEPTED(3, 0), (const uint8_t[]){0x03, 0, 0});
+    check_state(0, 0, 1u << 24);
+    gives("a response that names the row itself", BYTES(0x0b, 3, 0, 0), REFUSED(MONITOR_NOT_AWAITED), NOTHING);
+    gives("a redirect that leaves the row itself", BYTES(0x23, 3, 0, 0), REFUSED(MONITOR_NOT_AWAITED), NOTHING);
+    gives("a redirect that goes to the partner", BYTES(0x23, 0, 0, 3), ACCEPTED(3, 0), (const uint8_t[]){0x03, 0, 0});
+    check_state(0, 0, 1u << 24);
+    memcpy(lent.scripts, requests_3, sizeof requests_3);
+    memcpy(lent.scripts + SCRIPT, requests_67, sizeof requests_67);
+    memcpy(lent.scripts + 2 * SCRIPT, picture_of_67, sizeof picture_of_67);
+    gives("a script whose requests go to the partner", BYTES(0x0b, 0, 0, 0), ACCEPTED(7, 3), (const uint8_t[]){0x0b, 0, 0, 9, 0x43, 0, 0});
+    check_state(0, 0, 3u << 24);
+    gives("URL 67 is not URL 3", BYTES(0x03, 67, 0), REFUSED(MONITOR_NAME_UNKNOWN), NOTHING);
+    gives("target 67 is not URL 3", BYTES(0x23, 0, 0, 67), REFUSED(MONITOR_NAME_UNKNOWN), NOTHING);
+    gives("the picture's response", BYTES(0x43, 0, 0), ACCEPTED(0, 0), NOTHING);
+    gives("the next page", BYTES(0x03, 3, 0), ACCEPTED(3, 0), (const uint8_t[]){0x03, 0, 0});
+    gives("a script that requests URL 67", BYTES(0x0b, 0, 0, 1), ACCEPTED(0, 1), NOTHING);
+    gives("the last page", BYTES(0x03, 3, 0), ACCEPTED(3, 0), (const uint8_t[]){0x03, 0, 0});
+    gives("a script that requests a picture of URL 67", BYTES(0x0b, 0, 0, 2), ACCEPTED(0, 1), NOTHING);
+    check_state(0, 0, 0);
+}
+
+/* The labels of URL 0 allow and forbid, and not those of URL 3; cookies are those of URL 0. */
+static void upgraded_labels(void)
+{
+    store_7("the partner's cookie");
+    list_host_0();
+    gives("the partner's cookie", BYTES(0x03, 3, 0), ACCEPTED(8, 0), (const uint8_t[]){0x07, 0, 0, 0x01, 0, 0, 0, 7});
+    small_post();
+    lent.policy[3 * 3 + 1] = UINT32_MAX;
+    gives("the row itself, which all may read", BYTES(0x03, 3, 1), ACCEPTED(3, 0), (const uint8_t[]){0x03, 3, 1});
+    list_host_0();
+    gives("the partner, which not all may read", BYTES(0x03, 3, 1), REFUSED(MONITOR_READERS_FORBID), NOTHING);
+    gives("the row of a host that is not listed", BYTES(0x03, 1, 1), ACCEPTED(3, 0), (const uint8_t[]){0x03, 1, 1});
+    gives("a redirect to the partner, which not all may read", BYTES(0x23, 1, 1, 3), REFUSED(MONITOR_READERS_FORBID), NOTHING);
+    lent.state[144 + 3] = 1u << 24 | 3;
+    gives("a redirect to the partner, with a writer too many", BYTES(0x23, 3, 3, 3), REFUSED(MONITOR_WRITERS_FORBID), NOTHING);
+    gives("a response that names the partner of what is held", BYTES(0x0b, 0, 3, 0), REFUSED(MONITOR_NOT_AWAITED), NOTHING);
+    gives("a response that names the row that is held", BYTES(0x0b, 3, 3, 0), ACCEPTED(0, 1), NOTHING);
+}
+
+/* Lists these hosts of policy P, and gives one row this partner: what is well formed loads a URL. */
+static void partner_gives(const char *name, uint32_t hosts, size_t row, uint32_t partner, bool accepted)
+{
+    small_post();
+    if ((hosts & 1u) != 0) {
+        lent.policy[PARTNERS + 3] = 0;
+    }
+    lent.policy[HTTPS_HOSTS] = hosts;
+    lent.policy[PARTNERS + row] = partner;
+    gives(name, BYTES(0x03, 0, 0), accepted ? ACCEPTED(3, 0) : REFUSED(MONITOR_POLICY_BAD), (const uint8_t[]){0x03, 0, 0});
+}
+
+static void partners(void)
+{
+    for (uint32_t bit = 0; bit < 32; bit++) {
+        /* host 1 has an http row without a partner, hosts 2 to 15 have no row */
+        partner_gives("each host listed", 1u << bit, URLS - 1, NO_PARTNER, bit != 1 && bit < 16);
+    }
+    for (uint32_t partner = 0; partner < 1024; partner++) {
+        partner_gives("the partner of an http row", 1, 3, partner, partner == 0);
+        partner_gives("the partner of an https row", 1, 0, partner, partner == NO_PARTNER);
+        partner_gives("the partner of an http row whose host is not listed", 1, 1, partner, partner == NO_PARTNER);
+        partner_gives("the partner of an http row, and no host is listed", 0, 3, partner, partner == NO_PARTNER);
+        partner_gives("the partner of an empty row", 1, 4, partner, partner == NO_PARTNER);
+        partner_gives("the partner of the last row", 0, URLS - 1, partner, partner == NO_PARTNER);
+    }
+    small_post();
+    doing = "a policy without https hosts and partners";
+    struct lengths short_policy = RIGHT;
+    short_policy.policy = HTTPS_HOSTS;
+    check(feed_with(short_policy, BYTES(0x03, 0, 0)).number == MONITOR_POLICY_BAD, "it was taken");
+}
+
+/* A pair of each host at each place: rows are checked in groups, and the compiler makes code for each place. */
+static void pairs(void)
+{
+    for (uint8_t row = 0; row < URLS; row++) {
+        const uint8_t host = row % 16, other = (uint8_t)((row + 29) % URLS);
+        const uint8_t load[] = {0x03, row, 1}, request[] = {0x03, other, 1};
+        small_post();
+        for (size_t url = 0; url < 4; url++) {
+            set_words(lent.policy, 3 * url, 3, (const uint32_t[]){255, 0, 0});
+        }
+        set_words(lent.policy, 3u * row, 3, (const uint32_t[]){host, UINT32_MAX, UINT32_MAX});
+        set_words(lent.policy, 3u * other, 3, (const uint32_t[]){16u + host, UINT32_MAX, UINT32_MAX});
+        gives("an http row whose host is not listed", load, sizeof load, ACCEPTED(3, 0), load);
+        lent.policy[HTTPS_HOSTS] = 1u << host;
+        gives("a listed http row without a partner", load, sizeof load, REFUSED(MONITOR_POLICY_BAD), NOTHING);
+        lent.policy[PARTNERS + row] = row;
+        gives("a listed http row that is its own partner", load, sizeof load, REFUSED(MONITOR_POLICY_BAD), NOTHING);
+        /* what follows the rows would make of 64 an https row of the host */
+        set_words(lent.policy, 3 * URLS, 3, (const uint32_t[]){16u + host, UINT32_MAX, UINT32_MAX});
+        lent.policy[PARTNERS + row] = URLS;
+        gives("a listed http row with a partner past the rows", load, sizeof load, REFUSED(MONITOR_POLICY_BAD), NOTHING);
+        lent.policy[PARTNERS + row] = other;
+        gives("a listed http row with its partner", load, sizeof load, ACCEPTED(3, 0), request);
+        lent.policy[PARTNERS + other] = other;
+        gives("an https row that is its own partner", load, sizeof load, REFUSED(MONITOR_POLICY_BAD), NOTHING);
+        lent.policy[PARTNERS + other] = NO_PARTNER;
+        lent.policy[HTTPS_HOSTS] = 0xffffu ^ 1u << host;
+        gives("an http row whose host is not listed with a partner", load, sizeof load, REFUSED(MONITOR_POLICY_BAD), NOTHING);
+    }
+}
+
+static void always_https(void)
+{
+    upgrades();
+    upgraded_labels();
+    partners();
+    pairs();
 }
 
 /* ---- the endpoints of an address: each question that is about one, asked of a set that has one endpoint */
@@ -475,7 +605,7 @@ static void null_pointers(void)
 
 /* ---- random records */
 
-/* Sessions of policy P with random scripts. Records are mostly near good ones, so that many are accepted. */
+/* Sessions of policy P with random scripts, every second one with both hosts listed. Records are mostly near good ones, so that many are accepted. */
 static void random_records(void)
 {
     static const uint8_t maps[] = {0x03, 0x03, 0x0b, 0x0f, 0x13, 0x17, 0x23, 0x27, 0x43, 0x47};
@@ -485,6 +615,11 @@ static void random_records(void)
     for (uint32_t k = 0; k < 20000; k++) {
         if (k % 50 == 0) {
             small_post();
+            if (k % 100 == 0) {
+                list_host_0();
+                lent.policy[HTTPS_HOSTS] |= 2;
+                lent.policy[PARTNERS + 1] = 2;
+            }
             for (size_t i = 0; i < MONITOR_SCRIPT_BYTES; i++) {
                 lent.scripts[i] = (uint8_t)(next_random() >> 8 & (i % 4 == 0 ? 7u : 3u));
             }
@@ -515,13 +650,14 @@ int main(void)
     malformed();
     scripts();
     pictures();
+    always_https();
     endpoints();
     no_addresses();
     wrong_lengths();
     null_pointers();
     random_records();
-    printf("monitor: cases a to j, the script in two connections, pictures, the endpoints of every address, every wrong length, null pointers agree, "
-           "and random records touch nothing else: %lu calls\n",
+    printf("monitor: cases a to j, the script in two connections, pictures, https hosts, the endpoints of every address, every wrong length, null "
+           "pointers agree, and random records touch nothing else: %lu calls\n",
            calls);
     return 0;
 }

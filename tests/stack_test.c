@@ -13,6 +13,8 @@
 
 enum { STACK_BYTES = 64 * 1024, PAINT = 0x5a, MOST = 1024, MOST_COUNTING = 2 * 1024, SENDS = 0, REGISTERS = 1, WRITES = 2 };
 enum { STEPS = 32, STEP_BYTES = 4, KEYS = 8 };
+/* in a policy, the partners of the URLs and before them the word of https hosts */
+enum { URLS = 64, PARTNERS = MONITOR_POLICY_WORDS - URLS, HTTPS_HOSTS = PARTNERS - 1 };
 
 typedef void calls(void);
 typedef struct usage_tally counts(const uint8_t *, size_t);
@@ -78,12 +80,15 @@ static void step(size_t script, size_t at, uint8_t op, uint8_t a, uint8_t b, uin
     memcpy(scripts + STEP_BYTES * (STEPS * script + at), bytes, sizeof bytes);
 }
 
-/* Every URL, connection and cookie is there and open to all, every cookie is present, every connection awaits a document. */
+/* Every URL, connection and cookie is there and open to all, no host is listed as always https, every cookie is present, every connection awaits
+ * a document. */
 static void everything(void)
 {
     memset(policy, 0xff, sizeof policy);
-    for (uint32_t url = 0; url < 64; url++) {
+    policy[HTTPS_HOSTS] = 0;
+    for (uint32_t url = 0; url < URLS; url++) {
         policy[3 * url] = url % 32;
+        policy[PARTNERS + url] = 255;
     }
     for (uint32_t i = 0; i < MONITOR_STATE_WORDS; i++) {
         state[i] = i < 128 ? 0xffffffffu : i < 144 ? 0xffu : 0x01000000u | (i - 144);

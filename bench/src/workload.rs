@@ -1,7 +1,10 @@
 //! What is measured: sessions, each a policy, a script table, a state to start from, and records.
 
-use cases::labels::{ALL, OPEN_AT, PRESENT_AT, SCRIPTS_BYTES, STATE_WORDS};
-use cases::policy::{document, policy_of, Style};
+use cases::labels::{
+    ALL, COOKIES_AT, HOSTS, HTTPS_HOSTS_AT, NO_PARTNER, OPEN_AT, PARTNERS_AT, POLICY_WORDS,
+    PRESENT_AT, SCRIPTS_BYTES, STATE_WORDS, URLS,
+};
+use cases::policy::{document, list_hosts, policy_of, Style};
 use cases::record::{make_accepted, make_record};
 use cases::session::MakeRecord;
 use cases::{state, Random, Setting};
@@ -18,7 +21,7 @@ pub struct Session {
 pub struct Workload {
     pub name: &'static str,
     pub sessions: Vec<Session>,
-    /// Whether the bar is set on it; the others tell what single calls cost.
+    /// Whether the bar is set on it; the others only tell what calls cost.
     pub barred: bool,
 }
 
@@ -26,53 +29,72 @@ const SEED: u64 = 2026;
 const DENSE_POLICIES: usize = 16;
 const DENSE_RECORDS: usize = 64;
 
+type Named = (&'static str, Vec<Session>);
+
 pub fn all() -> Vec<Workload> {
-    let dense = dense(make_record);
+    let named = |barred| {
+        move |(name, sessions)| Workload {
+            name,
+            sessions,
+            barred,
+        }
+    };
+    let barred = with_bar().into_iter().map(named(true));
+    barred
+        .chain(without_bar().into_iter().map(named(false)))
+        .collect()
+}
+
+fn with_bar() -> Vec<Named> {
+    let dense = dense(make_record, dense_policy);
+    let accepted = self::dense(make_accepted, dense_policy);
     let small = small_post();
-    let barred = |name, sessions| Workload {
-        name,
-        sessions,
-        barred: true,
-    };
-    let single = |name, sessions| Workload {
-        name,
-        sessions,
-        barred: false,
-    };
     vec![
-        barred("policy P, a customer's session", vec![small.clone()]),
-        barred("dense policies, records of every kind", dense.clone()),
-        barred(
-            "dense policies, records that are accepted",
-            self::dense(make_accepted),
-        ),
-        barred(
+        ("policy P, a customer's session", vec![small.clone()]),
+        ("dense policies, records of every kind", dense.clone()),
+        ("dense policies, records that are accepted", accepted),
+        (
             "policy P, refused by its form (number 10)",
             vec![with(&small, &[])],
         ),
-        barred(
+        (
             "dense policies, refused by their form (number 10)",
             each_with(&dense, &[]),
         ),
-        single(
+    ]
+}
+
+fn without_bar() -> Vec<Named> {
+    let listing = dense(make_record, listing_policy);
+    let requests = response(REQUESTS);
+    vec![
+        (
+            "dense policies that list hosts, records of every kind",
+            listing,
+        ),
+        (
             "a load that carries eight cookies",
             vec![with(&everything(), &[0x03, 0, 0])],
         ),
-        single(
+        (
             "everything open, refused by its form",
             vec![with(&everything(), &[])],
         ),
-        single(
+        (
             "eight cookies and a script of 32 additions",
             vec![response(ADDITIONS)],
         ),
-        single(
+        (
             "eight cookies and 32 reads and writes",
             vec![response(COOKIES)],
         ),
-        single(
+        (
             "eight cookies and 32 requests: 1,184 bytes",
-            vec![response(REQUESTS)],
+            vec![requests.clone()],
+        ),
+        (
+            "the same, every host always https",
+            vec![always_https(requests)],
         ),
     ]
 }
@@ -137,14 +159,25 @@ fn set_script(scripts: &mut [u8], script: usize, steps: &[[u8; 4]]) {
 }
 
 /// Random policies with every URL and connection in use, and states with most cookies and connections.
-fn dense(make: MakeRecord) -> Vec<Session> {
+fn dense(make: MakeRecord, policy: fn(&Random) -> Vec<u32>) -> Vec<Session> {
     (0..DENSE_POLICIES as u64)
-        .map(|case| dense_session(&Random::of_case(SEED, case), make))
+        .map(|case| dense_session(&Random::of_case(SEED, case), make, policy))
         .collect()
 }
 
-fn dense_session(random: &Random, make: MakeRecord) -> Session {
-    let setting = Setting::over(policy_of(Style::Dense, random), random);
+fn dense_policy(random: &Random) -> Vec<u32> {
+    policy_of(Style::Dense, random)
+}
+
+/// The same with hosts that are always https.
+fn listing_policy(random: &Random) -> Vec<u32> {
+    let mut policy = dense_policy(random);
+    list_hosts(&mut policy, random);
+    policy
+}
+
+fn dense_session(random: &Random, make: MakeRecord, policy: fn(&Random) -> Vec<u32>) -> Session {
+    let setting = Setting::over(policy(random), random);
     let mut session = cases::Session::start(setting);
     state::make_sound(&session.setting, &mut session.state, random);
     let start = session.state.clone();
@@ -169,13 +202,12 @@ const COOKIES: u8 = 2;
 
 /// Every URL, connection and cookie is there and open to all, every cookie is present, every connection awaits a document.
 pub fn everything() -> Session {
-    let mut policy = vec![ALL; cases::labels::POLICY_WORDS];
-    for (url, row) in policy[..cases::labels::COOKIES_AT]
-        .chunks_exact_mut(3)
-        .enumerate()
-    {
+    let mut policy = vec![ALL; POLICY_WORDS];
+    for (url, row) in policy[..COOKIES_AT].chunks_exact_mut(3).enumerate() {
         row[0] = url as u32 % 32;
     }
+    policy[HTTPS_HOSTS_AT] = 0;
+    policy[PARTNERS_AT..].fill(NO_PARTNER);
     let mut scripts = vec![0; SCRIPTS_BYTES];
     let requests: Vec<[u8; 4]> = (0..32).map(|at| [5, at, at, 15]).collect();
     set_script(&mut scripts, REQUESTS as usize, &requests);
@@ -203,4 +235,13 @@ fn response(script: u8) -> Session {
     record.extend([1; 32]);
     record.push(script);
     with(&everything(), &record)
+}
+
+/// Each http row has the https row of its host for a partner; row n of `everything` has address n modulo 32.
+fn always_https(mut session: Session) -> Session {
+    session.policy[HTTPS_HOSTS_AT] = (1 << HOSTS) - 1;
+    for url in (0..URLS).filter(|url| url % (2 * HOSTS) < HOSTS) {
+        session.policy[PARTNERS_AT + url] = (url + HOSTS) as u32;
+    }
+    session
 }

@@ -7,7 +7,7 @@
 //! A session starts from a state of zeros, and each record is fed with the state as the last call left it:
 //!
 //! ```
-//! use zolherima::{feed, Accepted, Refusal, NO_URL, OUT_BYTES, POLICY_WORDS, SCRIPT_BYTES, STATE_WORDS};
+//! use zolherima::{feed, Accepted, Refusal, NO_PARTNER, NO_URL, OUT_BYTES, POLICY_WORDS, SCRIPT_BYTES, STATE_WORDS};
 //!
 //! // One URL, https at host 0 (endpoint 16). Who sees host 0 on the wire (endpoint 0) may learn of it; it may be shaped by itself.
 //! let mut policy = [0; POLICY_WORDS];
@@ -17,6 +17,8 @@
 //! policy[..3].copy_from_slice(&[16, 0x0001_0001, 0x0001_0000]);
 //! // Connection 0: readers, readers of its scripts, writers.
 //! policy[448..451].copy_from_slice(&[0x0001_0001, 0x0001_0001, 0x0001_0000]);
+//! // No host is listed as always https, so no URL has a partner.
+//! policy[545..].fill(NO_PARTNER);
 //! let scripts = [0; SCRIPT_BYTES];
 //!
 //! let mut state = [0; STATE_WORDS];
@@ -41,13 +43,15 @@
 //!
 //! | Buffer | Length | What |
 //! |---|---|---|
-//! | policy | [`POLICY_WORDS`] | words 0 to 191: 64 URLs of address, readers, writers ([`NO_URL`] where there is none); 192 to 447: readers and writers of the cookie of host h and key k, at 192 + 2 (8 h + k); 448 to 543: 32 connections of readers, script readers, writers |
+//! | policy | [`POLICY_WORDS`] | words 0 to 191: 64 URLs of address, readers, writers ([`NO_URL`] where there is none); 192 to 447: readers and writers of the cookie of host h and key k, at 192 + 2 (8 h + k); 448 to 543: 32 connections of readers, script readers, writers; 544: the hosts that are always https, bit h for host h; 545 to 608: the partner of each URL, by https at its host, for URLs by http at such a host, and [`NO_PARTNER`] for all others |
 //! | script table | [`SCRIPT_BYTES`] | 16 scripts of 32 steps of 4 bytes: op, a, b, c |
 //! | state | [`STATE_WORDS`] | words 0 to 127: the values of cookies, at 8 h + k; 128 to 143: for each host, the keys present as bits 0 to 7; 144 to 175: connections, 0 where free, else kind << 24 \| origin << 16 \| handler << 8 \| URL, where kind is 1 for a document, 2 for a script's request and 3 for a picture (origin and handler 0 but for a script's request) |
 //! | output | [`OUT_BYTES`] or more | requests, one right after another |
 //!
 //! An address is an endpoint, 0 to 31: http at host a for a below 16, https at host a - 16 from there on. A set of endpoints is a
-//! word whose bit a stands for endpoint a. Records, requests and scripts are described in `include/monitor.h`.
+//! word whose bit a stands for endpoint a. Where a load, a redirect or a script asks for a URL that has a partner, the partner is asked
+//! for in its place, so that no request goes by http to a host that is always https. Records, requests and scripts are described in
+//! `include/monitor.h`.
 //!
 //! # The tally of requests
 //!
@@ -62,7 +66,7 @@ pub mod usage;
 use core::fmt;
 
 /// Words of a policy.
-pub const POLICY_WORDS: usize = 544;
+pub const POLICY_WORDS: usize = 609;
 /// Bytes of a script table.
 pub const SCRIPT_BYTES: usize = 2048;
 /// Words of a state.
@@ -75,6 +79,8 @@ pub const LONGEST_RECORD: usize = 40;
 pub const LONGEST_REQUEST: usize = 37;
 /// The three words of a policy's URL that is not in use.
 pub const NO_URL: [u32; 3] = [255, 0, 0];
+/// The partner, in a policy, of a URL that has none, and of a row that is not in use.
+pub const NO_PARTNER: u32 = 255;
 
 /// What an accepted record did.
 #[derive(Clone, Copy, Debug, PartialEq, Eq, Hash)]
@@ -124,7 +130,8 @@ refusals! {
     /// The output has fewer than [`OUT_BYTES`] bytes, however few this record needs.
     OutputShort = 1, "the output is too short";
     /// The policy does not have [`POLICY_WORDS`] words, or is not well formed: a URL with an address above 31 or without its event
-    /// endpoint (http at its host) among its readers, or a connection with script readers that are not among its readers.
+    /// endpoint (http at its host) among its readers; a connection with script readers that are not among its readers; a host above 15
+    /// listed as always https; or a partner that is missing, wrong, or not called for.
     PolicyBad = 2, "the policy has the wrong length or is not well formed";
     /// The script table does not have [`SCRIPT_BYTES`] bytes.
     ScriptsBad = 3, "the script table has the wrong length";

@@ -3,10 +3,13 @@
 use std::error::Error;
 
 use zolherima::{
-    feed, Accepted, Refusal, NO_URL, OUT_BYTES, POLICY_WORDS, SCRIPT_BYTES, STATE_WORDS,
+    feed, Accepted, Refusal, NO_PARTNER, NO_URL, OUT_BYTES, POLICY_WORDS, SCRIPT_BYTES, STATE_WORDS,
 };
 
 const ALL: u32 = u32::MAX;
+/// Where the https partners of the 64 URLs stand, behind the word of hosts that are always https.
+const PARTNERS: usize = POLICY_WORDS - 64;
+const HTTPS_HOSTS: usize = PARTNERS - 1;
 
 struct Post {
     policy: [u32; POLICY_WORDS],
@@ -30,6 +33,7 @@ impl Post {
             0x10001, 0x10001, 0x10000, ALL, ALL, ALL, 0x10000, 0x10000, 0x10000, 0x10001, 0x10001,
             0x10001,
         ]);
+        policy[PARTNERS..].fill(NO_PARTNER);
         Post {
             policy,
             scripts: [0; SCRIPT_BYTES],
@@ -79,6 +83,23 @@ fn a_picture_is_requested_by_a_script_and_runs_none() {
     assert_eq!((post.state[0], post.state[144]), (7, 0));
 }
 
+/// URL 0 is https at host 0 and URL 3 is http there, which the writers of connection 0 forbid.
+#[test]
+fn a_host_that_is_always_https_is_called_by_https() {
+    let mut post = Post::new();
+    let load = [0x03, 3, 0];
+    assert_eq!(post.feed(&load), Err(Refusal::WritersForbid));
+    post.policy[HTTPS_HOSTS] = 1;
+    assert_eq!(post.feed(&load), Err(Refusal::PolicyBad));
+    post.policy[PARTNERS + 3] = 0;
+    assert_eq!(post.sends(&load), [0x03, 0, 0]);
+    assert_eq!(post.feed(&[0x0b, 3, 0, 0]), Err(Refusal::NotAwaited));
+    let response = post.feed(&[0x0b, 0, 0, 0]);
+    assert_eq!(response, Ok(Accepted { bytes: 0, steps: 1 }));
+    post.policy[HTTPS_HOSTS] = 0x1_0001;
+    assert_eq!(post.feed(&load), Err(Refusal::PolicyBad));
+}
+
 #[test]
 fn records_are_refused_by_name_and_change_nothing() {
     let refused: [(&[u8], Refusal); 11] = [
@@ -118,6 +139,11 @@ fn buffers_are_refused_by_their_length() {
     );
     assert_eq!(
         feed(&policy[1..], &scripts, &mut state, &load, &mut out),
+        Err(Refusal::PolicyBad)
+    );
+    let hosts_missing = &policy[..HTTPS_HOSTS];
+    assert_eq!(
+        feed(hosts_missing, &scripts, &mut state, &load, &mut out),
         Err(Refusal::PolicyBad)
     );
     assert_eq!(

@@ -3,7 +3,7 @@
 use std::error::Error;
 
 use zolherima::usage::{count, ListBad, Tally, LIST_BYTES, URLS};
-use zolherima::{feed, NO_URL, OUT_BYTES, POLICY_WORDS, SCRIPT_BYTES, STATE_WORDS};
+use zolherima::{feed, NO_PARTNER, NO_URL, OUT_BYTES, POLICY_WORDS, SCRIPT_BYTES, STATE_WORDS};
 
 /// Of some URLs the records and cookies; of all others none.
 fn tally(rows: &[(usize, u32, u32)]) -> Tally {
@@ -96,6 +96,7 @@ fn front_page() -> ([u32; POLICY_WORDS], [u8; SCRIPT_BYTES]) {
     policy[208..212].copy_from_slice(&[0x0000_0002, 0x0002_0003, 0x0002_0000, 0x0002_0003]);
     policy[448..451].copy_from_slice(&[0x0000_0001; 3]);
     policy[451..454].copy_from_slice(&[0x0002_0003; 3]);
+    policy[POLICY_WORDS - URLS..].fill(NO_PARTNER);
     let mut scripts = [0; SCRIPT_BYTES];
     scripts[128..140].copy_from_slice(&[1, 1, 0, 9, 4, 0, 1, 0, 5, 0, 0, 0]);
     scripts[256..260].copy_from_slice(&[5, 1, 1, 0]);

@@ -1,8 +1,9 @@
 //! Damage to what the monitor is lent beside the record: each clause of the refusals 1 to 4, and anything at random.
 
 use crate::labels::{
-    event_set, Pending, Url, CONNECTIONS, CONNECTIONS_AT, HOSTS, KEYS, NO_URL, OPEN_AT,
-    OUTPUT_BYTES, PICTURE, PRESENT_AT, SCRIPTS, STATE_WORDS, URLS,
+    event_set, rows, Pending, Url, CONNECTIONS, CONNECTIONS_AT, HOSTS, HTTPS_HOSTS_AT, KEYS,
+    NO_PARTNER, NO_URL, OPEN_AT, OUTPUT_BYTES, PARTNERS_AT, PICTURE, PRESENT_AT, SCRIPTS,
+    STATE_WORDS, URLS,
 };
 use crate::random::Random;
 use crate::setting::Setting;
@@ -24,15 +25,39 @@ fn bit(random: &Random) -> u32 {
 pub fn damage_policy(policy: &mut Vec<u32>, random: &Random) {
     let url = 3 * random.below(URLS);
     let connection = CONNECTIONS_AT + 3 * random.below(CONNECTIONS);
-    match random.below(8) {
-        0 | 1 => resize(policy, random),
+    match random.below(13) {
+        0 => resize(policy, random),
+        1 => policy.truncate(random.pick(&[HTTPS_HOSTS_AT, PARTNERS_AT])),
         2 => policy[url] = random.pick(&[32, 254, 255, 256, 0x8000_0000, random.word()]),
         3 => remove_event(&mut policy[url..url + 3], random),
         4 => leave_sets(&mut policy[url..url + 3], random),
         5 => policy[connection + 1] |= bit(random),
         6 => policy[random.pick(&[url, connection]) + random.below(3)] ^= bit(random),
-        _ => random.fill_words(policy),
+        7 => random.fill_words(policy),
+        8 => policy[HTTPS_HOSTS_AT] ^= bit(random),
+        _ => damage_partner(policy, random),
     }
+}
+
+/// Gives a row of any kind, or the last one, another partner, or none.
+fn damage_partner(policy: &mut [u32], random: &Random) {
+    let of = |holds: fn(Url) -> bool| random.bit_of(rows(policy, holds)).unwrap_or(0);
+    let (http, https) = (of(Url::is_http), of(Url::is_https));
+    let empty = of(|url| !url.exists());
+    let last = URLS as u8 - 1;
+    let row = random.weighted(&[(4, http), (1, https), (1, empty), (1, last)]);
+    let place = PARTNERS_AT + usize::from(row);
+    let [http, https, empty] = [of(Url::is_http), of(Url::is_https), empty].map(u32::from);
+    policy[place] = random.pick(&[
+        NO_PARTNER,
+        URLS as u32,
+        policy[place] | 1 << random.within(8..=31),
+        random.word() % 256,
+        empty,
+        http,
+        https,
+        https,
+    ]);
 }
 
 fn remove_event(url: &mut [u32], random: &Random) {

@@ -6,11 +6,14 @@ pub use reference::layout::{
 };
 
 pub const NO_URL: [u32; 3] = [255, 0, 0];
+pub const NO_PARTNER: u32 = 255;
 pub const ALL: u32 = u32::MAX;
 
-/// Where the cookies' labels and the connections start in a policy.
+/// Where the cookies' labels, the connections, the word of https hosts and the partners start in a policy.
 pub const COOKIES_AT: usize = 3 * URLS;
 pub const CONNECTIONS_AT: usize = COOKIES_AT + 2 * HOSTS * KEYS;
+pub const HTTPS_HOSTS_AT: usize = CONNECTIONS_AT + 3 * CONNECTIONS;
+pub const PARTNERS_AT: usize = HTTPS_HOSTS_AT + 1;
 
 /// Where the key maps and the connections start in a state.
 pub const PRESENT_AT: usize = HOSTS * KEYS;
@@ -50,6 +53,14 @@ impl Url {
         self.address as usize % HOSTS
     }
 
+    pub fn is_http(self) -> bool {
+        self.address < HOSTS as u32
+    }
+
+    pub fn is_https(self) -> bool {
+        self.exists() && !self.is_http()
+    }
+
     fn message(self) -> u32 {
         1 << self.address
     }
@@ -57,6 +68,24 @@ impl Url {
     fn event(self) -> u32 {
         event_set(self.address)
     }
+}
+
+/// The rows of a policy of which this holds, as a mask.
+pub fn rows(policy: &[u32], holds: impl Fn(Url) -> bool) -> u64 {
+    (0..URLS as u8)
+        .filter(|&row| holds(Url::of(policy, row)))
+        .fold(0, |mask, row| mask | 1 << row)
+}
+
+/// The https partner of a row, where it has one.
+pub fn partner(policy: &[u32], url: u8) -> Option<u8> {
+    let partner = policy[PARTNERS_AT + usize::from(url)];
+    (partner != NO_PARTNER).then_some(partner as u8)
+}
+
+/// The URL that a request to this one goes to.
+pub fn upgraded(policy: &[u32], url: u8) -> u8 {
+    partner(policy, url).unwrap_or(url)
 }
 
 #[derive(Clone, Copy)]

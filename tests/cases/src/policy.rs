@@ -2,8 +2,8 @@
 //! from a small pool and change one endpoint here and there: tests of subsets then succeed often, and often fail by a single endpoint.
 
 use crate::labels::{
-    event_set, ALL, CONNECTIONS, CONNECTIONS_AT, COOKIES_AT, HOSTS, KEYS, NO_URL, POLICY_WORDS,
-    URLS,
+    event_set, rows, Url, ALL, CONNECTIONS, CONNECTIONS_AT, COOKIES_AT, HOSTS, HTTPS_HOSTS_AT,
+    KEYS, NO_PARTNER, NO_URL, PARTNERS_AT, POLICY_WORDS, URLS,
 };
 use crate::random::Random;
 
@@ -35,11 +35,17 @@ const STYLES: [(usize, Style); 7] = [
     (1, Style::Bare),
 ];
 
+/// Of any style; about half of them list hosts that are always https.
 pub fn random_policy(random: &Random) -> Vec<u32> {
     let style = random.weighted(&STYLES);
-    policy_of(style, random)
+    let mut policy = policy_of(style, random);
+    if style != Style::Document && random.one_in(2) {
+        list_hosts(&mut policy, random);
+    }
+    policy
 }
 
+/// Lists no host.
 pub fn policy_of(style: Style, random: &Random) -> Vec<u32> {
     match style {
         Style::Document => document(),
@@ -87,12 +93,13 @@ pub fn document() -> Vec<u32> {
     policy
 }
 
-/// No URL, and every set empty.
+/// No URL, every set empty, and no host listed.
 fn empty() -> Vec<u32> {
     let mut policy = vec![0; POLICY_WORDS];
     for url in policy[..COOKIES_AT].chunks_exact_mut(3) {
         url.copy_from_slice(&NO_URL);
     }
+    policy[PARTNERS_AT..].fill(NO_PARTNER);
     policy
 }
 
@@ -116,8 +123,54 @@ fn well_formed(policy: &mut [u32]) {
             url[1] |= event_set(url[0]);
         }
     }
-    for connection in policy[CONNECTIONS_AT..].chunks_exact_mut(3) {
+    for connection in policy[CONNECTIONS_AT..HTTPS_HOSTS_AT].chunks_exact_mut(3) {
         connection[1] &= connection[0];
+    }
+}
+
+/// Lists hosts as always https, also such as have no URL, and gives each of their http rows a partner.
+pub fn list_hosts(policy: &mut [u32], random: &Random) {
+    let any = random.word() & HOST_BITS;
+    let hosts = random.pick(&[HOST_BITS, any, any | random.word() & HOST_BITS]);
+    policy[HTTPS_HOSTS_AT] = hosts;
+    for host in (0..HOSTS as u32).filter(|host| hosts >> host & 1 == 1) {
+        let (http, https) = (host, HOSTS as u32 + host);
+        if rows_at(policy, http) != 0 && rows_at(policy, https) == 0 {
+            add_url(policy, https, http, random);
+        }
+        let partners = rows_at(policy, https);
+        for row in 0..URLS {
+            if policy[3 * row] == http {
+                let partner = random.bit_of(partners).expect("the host has an https row");
+                policy[PARTNERS_AT + row] = partner.into();
+            }
+        }
+    }
+}
+
+/// The bits of a word that stand for hosts.
+const HOST_BITS: u32 = (1 << HOSTS) - 1;
+
+/// The rows of this address, as a mask.
+fn rows_at(policy: &[u32], address: u32) -> u64 {
+    rows(policy, |url| url.address == address)
+}
+
+/// A URL of this address in an empty row, with the sets of another URL; where no row is empty, one of the other address, which has the same
+/// host, becomes it.
+fn add_url(policy: &mut [u32], address: u32, other: u32, random: &Random) {
+    let like = random.bit_of(rows(policy, Url::exists));
+    let like = Url::of(policy, like.expect("a row has the other address"));
+    let row = random.bit_of(rows(policy, |url| !url.exists()));
+    match row {
+        Some(row) => {
+            let sets = [address, like.readers | event_set(address), like.writers];
+            policy[3 * usize::from(row)..][..3].copy_from_slice(&sets);
+        }
+        None => {
+            let row = random.bit_of(rows_at(policy, other));
+            policy[3 * usize::from(row.expect("a row has the other address"))] = address;
+        }
     }
 }
 

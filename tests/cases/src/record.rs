@@ -85,6 +85,8 @@ enum Twist {
     AnyLoad,
     /// A redirect to any URL.
     AnyTarget,
+    /// A load or a redirect of which labels say another thing if the URL is not replaced by its partner.
+    Swayed,
     BadName,
     OtherUrl,
     OtherConnection,
@@ -93,10 +95,11 @@ enum Twist {
     Bytes,
 }
 
-const TWISTS: [(usize, Twist); 8] = [
+const TWISTS: [(usize, Twist); 9] = [
     (40, Twist::Nothing),
     (5, Twist::AnyLoad),
     (5, Twist::AnyTarget),
+    (4, Twist::Swayed),
     (5, Twist::BadName),
     (3, Twist::OtherUrl),
     (3, Twist::OtherConnection),
@@ -137,7 +140,7 @@ fn load(setting: &Setting, random: &Random) -> Fields {
     let connection = setting.useful_connection(random);
     Fields {
         map: LOAD,
-        url: setting.fitting_url(connection, random),
+        url: setting.loadable_url(connection, random),
         connection,
         ..Fields::default()
     }
@@ -192,8 +195,13 @@ fn twist_fields(twist: Twist, fields: &mut Fields, setting: &Setting, random: &R
             fields.map = REDIRECT | fields.map & COOKIES;
             fields.target = setting.any_url(random);
         }
+        Twist::Swayed => sway(fields, setting, random),
         Twist::BadName => misname(fields, setting, random),
-        Twist::OtherUrl => fields.url = setting.any_url(random),
+        Twist::OtherUrl => {
+            let any = setting.any_url(random);
+            let http = setting.http_of(fields.url, random).unwrap_or(any);
+            fields.url = random.pick(&[any, http]);
+        }
         Twist::OtherConnection => fields.connection = random.byte_below(CONNECTIONS as u8),
         Twist::OtherKind => {
             let others = [
@@ -207,10 +215,26 @@ fn twist_fields(twist: Twist, fields: &mut Fields, setting: &Setting, random: &R
     }
 }
 
+/// Names a URL of which labels say another thing than of its partner, where there is one and the record has a connection.
+fn sway(fields: &mut Fields, setting: &Setting, random: &Random) {
+    let connection = fields.connection;
+    if usize::from(connection) >= CONNECTIONS {
+        return;
+    }
+    if fields.map == LOAD {
+        let url = setting.swayed_url(connection, random);
+        fields.url = url.unwrap_or(fields.url);
+    } else if let Some(target) = setting.swayed_target(connection, random) {
+        fields.map = REDIRECT | fields.map & COOKIES;
+        fields.target = target;
+    }
+}
+
 /// Names something that there is not, as near as it can be or far away.
 fn misname(fields: &mut Fields, setting: &Setting, random: &Random) {
     let far = random.pick(&[255, random.byte() | 0x80]);
-    let no_url = random.pick(&[URLS as u8, setting.no_url(random), far]);
+    let beyond = URLS as u8 + setting.any_url(random);
+    let no_url = random.pick(&[URLS as u8, beyond, setting.no_url(random), far]);
     match random.below(4) {
         0 => fields.url = no_url,
         1 => fields.connection = random.pick(&[CONNECTIONS as u8, far]),

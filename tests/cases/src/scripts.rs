@@ -1,7 +1,9 @@
 //! Script tables. A script is made for a home, a page and a connection to whose labels its steps keep, so that it runs for long; and has
 //! a step here and there that ends it.
 
-use crate::labels::{Connection, Cookie, Url, CONNECTIONS, KEYS, SCRIPTS, STEPS, STEP_BYTES};
+use crate::labels::{
+    upgraded, Connection, Cookie, Url, CONNECTIONS, KEYS, SCRIPTS, STEPS, STEP_BYTES, URLS,
+};
 use crate::random::Random;
 use crate::setting::{Home, Setting};
 
@@ -93,6 +95,7 @@ impl Composer<'_> {
             0 | 1 => self.one_field_off(random),
             2 | 3 => self.whatever(random),
             4 => [END, random.byte(), random.byte(), random.byte()],
+            5 => self.swayed(random),
             _ => self.kept(random),
         }
     }
@@ -144,7 +147,10 @@ impl Composer<'_> {
         let first_bad = match (step[0], field) {
             (_, 0) => PICTURE + 1,
             (WRITE, 1) | (READ, 2) => KEYS as u8,
-            (SEND | PICTURE, 1) => self.setting.no_url(random),
+            (SEND | PICTURE, 1) => {
+                let beyond = URLS as u8 + self.setting.any_url(random);
+                random.pick(&[self.setting.no_url(random), beyond])
+            }
             (SEND | PICTURE, 2) => CONNECTIONS as u8,
             (SEND, 3) => SCRIPTS as u8,
             _ => REGISTERS,
@@ -155,14 +161,12 @@ impl Composer<'_> {
 
     /// A request that the home's labels allow, if one is found in a few draws.
     fn request(&self, op: u8, random: &Random) -> [u8; STEP_BYTES] {
-        let policy = &self.setting.policy;
-        let home = Connection::of(policy, self.home.connection);
         let mut url = 0;
         let mut connection = 0;
         for _ in 0..8 {
             connection = self.setting.useful_connection(random);
-            url = self.setting.fitting_url(connection, random);
-            if home.sends(Url::of(policy, url), Connection::of(policy, connection)) {
+            url = self.setting.loadable_url(connection, random);
+            if self.sends(upgraded(&self.setting.policy, url), connection) {
                 break;
             }
         }
@@ -174,6 +178,13 @@ impl Composer<'_> {
         [op, url, connection, last]
     }
 
+    /// Whether the home's labels allow a request to just this row.
+    fn sends(&self, url: u8, connection: u8) -> bool {
+        let policy = &self.setting.policy;
+        let home = Connection::of(policy, self.home.connection);
+        home.sends(Url::of(policy, url), Connection::of(policy, connection))
+    }
+
     /// A request that was allowed, to another URL or on another connection: often a single condition fails.
     fn other_request(&self, op: u8, random: &Random) -> [u8; STEP_BYTES] {
         let mut step = self.request(op, random);
@@ -181,6 +192,26 @@ impl Composer<'_> {
             step[1] = self.setting.any_url(random);
         } else {
             step[2] = random.byte_below(CONNECTIONS as u8);
+        }
+        step
+    }
+
+    /// A request that the home's labels would allow if the URL were not replaced by its partner, if one is found in a few draws.
+    fn swayed(&self, random: &Random) -> [u8; STEP_BYTES] {
+        let mut step = self.request(random.pick(&[SEND, PICTURE]), random);
+        for _ in 0..16 {
+            let connection = self.setting.useful_connection(random);
+            let Some(any) = self.setting.upgraded_url(random) else {
+                break;
+            };
+            let swayed = self.setting.swayed_url(connection, random).unwrap_or(any);
+            let url = random.pick(&[any, swayed]);
+            let partner = upgraded(&self.setting.policy, url);
+            if self.sends(url, connection) && !self.sends(partner, connection) {
+                step[1] = url;
+                step[2] = connection;
+                break;
+            }
         }
         step
     }

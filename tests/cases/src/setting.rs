@@ -1,7 +1,7 @@
 //! A policy and a script table, with what the generator has worked out of the policy: which URLs there are, and for each connection the
-//! URLs that it fits and those that it may be redirected to.
+//! URLs that it fits, those that can be loaded on it and those that it may be redirected to.
 
-use crate::labels::{Connection, Url, CONNECTIONS, SCRIPTS, URLS};
+use crate::labels::{partner, rows, upgraded, Connection, Url, CONNECTIONS, SCRIPTS, URLS};
 use crate::policy;
 use crate::random::Random;
 use crate::scripts;
@@ -17,7 +17,13 @@ pub struct Setting {
     pub policy: Vec<u32>,
     pub scripts: Vec<u8>,
     urls: u64,
+    /// The http rows that have a partner.
+    upgraded: u64,
+    /// By their own labels, whether they have a partner or not.
     fits: [u64; CONNECTIONS],
+    fit_targets: [u64; CONNECTIONS],
+    /// By the labels of the URL that the request goes to.
+    loads: [u64; CONNECTIONS],
     targets: [u64; CONNECTIONS],
     /// The connections that fit some URL.
     useful: u64,
@@ -37,8 +43,11 @@ impl Setting {
             connection: 0,
         };
         let mut setting = Setting {
-            urls: mask_of(URLS, |url| Url::of(&policy, url).exists()),
+            urls: rows(&policy, Url::exists),
+            upgraded: mask_of(URLS, |url| partner(&policy, url).is_some()),
             fits: [0; CONNECTIONS],
+            fit_targets: [0; CONNECTIONS],
+            loads: [0; CONNECTIONS],
             targets: [0; CONNECTIONS],
             useful: 0,
             homes: [nowhere; SCRIPTS],
@@ -49,7 +58,7 @@ impl Setting {
         for script in 0..SCRIPTS {
             let connection = setting.useful_connection(random);
             setting.homes[script] = Home {
-                url: setting.fitting_url(connection, random),
+                url: setting.page(connection, random),
                 connection,
             };
         }
@@ -61,8 +70,12 @@ impl Setting {
         let policy = &self.policy;
         for n in 0..CONNECTIONS {
             let connection = Connection::of(policy, n as u8);
-            self.fits[n] = mask_of(URLS, |url| connection.fits(Url::of(policy, url)));
-            self.targets[n] = mask_of(URLS, |url| connection.redirects_to(Url::of(policy, url)));
+            let fits = |url| connection.fits(Url::of(policy, url));
+            let redirects_to = |url| connection.redirects_to(Url::of(policy, url));
+            self.fits[n] = mask_of(URLS, fits);
+            self.fit_targets[n] = mask_of(URLS, redirects_to);
+            self.loads[n] = mask_of(URLS, |url| fits(upgraded(policy, url)));
+            self.targets[n] = mask_of(URLS, |url| redirects_to(upgraded(policy, url)));
         }
         self.useful = mask_of(CONNECTIONS, |n| self.fits[usize::from(n)] != 0);
     }
@@ -97,6 +110,44 @@ impl Setting {
         random
             .bit_of(self.fits[usize::from(connection)])
             .unwrap_or(any)
+    }
+
+    /// A URL that can be loaded on the connection, or else any.
+    pub fn loadable_url(&self, connection: u8, random: &Random) -> u8 {
+        let any = self.any_url(random);
+        random
+            .bit_of(self.loads[usize::from(connection)])
+            .unwrap_or(any)
+    }
+
+    /// A URL that the connection fits: mostly one that it holds after a load, since only a state that is lent has an http row with a partner.
+    fn page(&self, connection: u8, random: &Random) -> u8 {
+        match random.bit_of(self.loads[usize::from(connection)]) {
+            Some(url) if !random.one_in(4) => upgraded(&self.policy, url),
+            _ => self.fitting_url(connection, random),
+        }
+    }
+
+    /// An http row that has a partner.
+    pub fn upgraded_url(&self, random: &Random) -> Option<u8> {
+        random.bit_of(self.upgraded)
+    }
+
+    /// An http row whose partner this is.
+    pub fn http_of(&self, url: u8, random: &Random) -> Option<u8> {
+        random.bit_of(mask_of(URLS, |row| partner(&self.policy, row) == Some(url)))
+    }
+
+    /// A row that the connection fits and whose partner it does not fit, or the other way round.
+    pub fn swayed_url(&self, connection: u8, random: &Random) -> Option<u8> {
+        let n = usize::from(connection);
+        random.bit_of(self.fits[n] ^ self.loads[n])
+    }
+
+    /// The same for a redirect.
+    pub fn swayed_target(&self, connection: u8, random: &Random) -> Option<u8> {
+        let n = usize::from(connection);
+        random.bit_of(self.fit_targets[n] ^ self.targets[n])
     }
 
     pub fn fits_none(&self, connection: u8) -> bool {

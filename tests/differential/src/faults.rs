@@ -12,16 +12,20 @@ use crate::case::play;
 use crate::checker::{Checker, Monitor};
 use crate::monitors;
 
-/// The first difference that a few cases find.
-fn first_difference(monitor: Monitor) -> Option<Difference> {
+/// So many cases are passed by an honest monitor; a fault is found in them or, where it is rare, in so many more.
+const HONEST_CASES: u64 = 64;
+const CASES: u64 = 1_024;
+
+/// The first difference that some cases find.
+fn first_difference(monitor: Monitor, cases: u64) -> Option<Difference> {
     let mut checker = Checker::new(monitor);
-    (0..64).find_map(|case| {
+    (0..cases).find_map(|case| {
         let played = play(1, case, |_, call, random| checker.check(call, random));
         played.err().map(|failure| failure.error)
     })
 }
 
-fn honest(buffers: &mut Buffers) -> Answer {
+pub fn honest(buffers: &mut Buffers) -> Answer {
     reference::feed(
         buffers.policy.inside(),
         buffers.scripts.inside(),
@@ -57,7 +61,7 @@ fn spoiling(spoil: Spoil) -> Monitor {
 }
 
 /// A monitor that takes what it is lent for something else, where it then accepts it.
-fn mistaking(mistake: fn(&mut Buffers)) -> Monitor {
+pub fn mistaking(mistake: impl Fn(&mut Buffers) + 'static) -> Monitor {
     Box::new(move |buffers| {
         let mut mistaken = buffers.clone();
         mistake(&mut mistaken);
@@ -93,15 +97,16 @@ fn mistake_steps(buffers: &mut Buffers, is_end: fn(&[u8]) -> bool) {
         .for_each(|step| step.fill(0));
 }
 
-fn assert_found(monitor: Monitor, what: &str) {
-    let found = first_difference(monitor).expect("the fault is found");
+pub fn assert_found(monitor: Monitor, what: &str) {
+    let found = first_difference(monitor, CASES).expect("the fault is found");
     assert_eq!(format!("{}{}", found.part, found.what), what, "{found}");
 }
 
 #[test]
 fn honest_monitors_are_passed() {
-    assert_eq!(first_difference(Box::new(honest)), None);
-    assert_eq!(first_difference(Box::new(monitors::library)), None);
+    for monitor in [honest, monitors::library] {
+        assert_eq!(first_difference(Box::new(monitor), HONEST_CASES), None);
+    }
 }
 
 #[test]

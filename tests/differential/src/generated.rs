@@ -1,5 +1,6 @@
 //! What the generator calls well formed and sound is so by the reference, and everything comes from the seed.
 
+use cases::labels::HTTPS_HOSTS_AT;
 use cases::{Call, Random, Setting};
 use reference::numbers::KIND_UNKNOWN;
 use reference::Seen;
@@ -35,6 +36,13 @@ fn policies_are_well_formed_and_states_sound() {
             );
         }
     }
+}
+
+#[test]
+fn about_half_of_the_policies_list_hosts() {
+    let policies = (0..400).map(|case| Setting::random(&Random::of_case(1, case)).policy);
+    let listing = policies.filter(|policy| policy[HTTPS_HOSTS_AT] != 0);
+    assert!((160..240).contains(&listing.count()));
 }
 
 #[test]

@@ -9,6 +9,8 @@ mod difference;
 mod faults;
 #[cfg(test)]
 mod generated;
+#[cfg(test)]
+mod https_faults;
 mod monitors;
 mod replay;
 mod tally;

@@ -49,7 +49,7 @@ fn judge(
     let out: &mut Output = out.first_chunk_mut().ok_or(OUTPUT_SHORT)?;
     let policy: &Policy = policy.try_into().map_err(|_| POLICY_BAD)?;
     let some_empty = urls_well_formed(policy).ok_or(POLICY_BAD)?;
-    if !connections_well_formed(policy) {
+    if !connections_well_formed(policy) || !partners_well_formed(policy) {
         return Err(POLICY_BAD);
     }
     let scripts: &[u8; SCRIPTS_BYTES] = scripts.try_into().map_err(|_| SCRIPTS_BAD)?;
@@ -57,7 +57,8 @@ fn judge(
     if !cookies_sound(state) || !pending_sound(policy, some_empty, state) {
         return Err(STATE_UNSOUND);
     }
-    let record = read_record(record).ok_or_else(|| why_malformed(record))?;
+    let mut record = read_record(record).ok_or_else(|| why_malformed(record))?;
+    upgrade_record(policy, &mut record);
     check_record(policy, state, &record)?;
     Ok(carry_out(policy, scripts, state, &record, out))
 }
@@ -66,6 +67,16 @@ fn judge(
 fn url_row(policy: &Policy, number: u32) -> UrlRow {
     let place = 3 * (number as usize % URLS);
     [policy[place], policy[place + 1], policy[place + 2]]
+}
+
+/// The number after the replacement: the row's https partner where it has one.
+/// A number above 63 has no row and stays.
+#[inline(always)]
+fn upgraded(policy: &Policy, number: u32) -> u32 {
+    match policy[POLICY_PARTNERS..].get(number as usize) {
+        Some(&partner) if partner != NO_PARTNER => partner,
+        _ => number,
+    }
 }
 
 #[inline(always)]
@@ -165,12 +176,42 @@ fn all_used_or_empty(rows: &[UrlRow; 8]) -> bool {
 /// Number 2, the connections: script readers within readers.
 #[inline(always)]
 fn connections_well_formed(policy: &Policy) -> bool {
-    let (rows, _) = policy[POLICY_CONNECTIONS..].as_chunks::<3>();
+    let (rows, _) = policy[POLICY_CONNECTIONS..POLICY_HTTPS_HOSTS].as_chunks::<3>();
     let mut stray = 0;
     for &[readers, script_readers, _] in rows {
         stray |= outside(script_readers, readers);
     }
     stray == 0
+}
+
+/// Number 2, the https hosts and the partners. Without such a host no row has
+/// a partner, which is tried for all rows together.
+#[inline(always)]
+fn partners_well_formed(policy: &Policy) -> bool {
+    let hosts = policy[POLICY_HTTPS_HOSTS];
+    if hosts != 0 {
+        return hosts < 1 << HOSTS && each_partner_well_formed(policy, hosts);
+    }
+    let mut differing = 0;
+    for &partner in &policy[POLICY_PARTNERS..] {
+        differing |= partner ^ NO_PARTNER;
+    }
+    differing == 0
+}
+
+/// The partner of an http row of a listed host has the address that is 16
+/// more; no empty row has that.
+#[inline(never)]
+fn each_partner_well_formed(policy: &Policy, hosts: u32) -> bool {
+    let (rows, _) = policy[..POLICY_COOKIES].as_chunks::<3>();
+    let partners = &policy[POLICY_PARTNERS..];
+    rows.iter().zip(partners).all(|(&[address, ..], &partner)| {
+        if address < 16 && holds(hosts, address) {
+            partner < 64 && url_row(policy, partner)[0] == address + 16
+        } else {
+            partner == NO_PARTNER
+        }
+    })
 }
 
 /// For each presence byte, all ones where the key is absent. Aligned, so
@@ -223,7 +264,7 @@ fn cookies_sound(state: &State) -> bool {
 #[inline(always)]
 fn pending_sound(policy: &Policy, some_empty: bool, state: &State) -> bool {
     let (words, _) = state[STATE_CONNECTIONS..].as_chunks::<4>();
-    let (rows, _) = policy[POLICY_CONNECTIONS..].as_chunks::<3>();
+    let (rows, _) = policy[POLICY_CONNECTIONS..POLICY_HTTPS_HOSTS].as_chunks::<3>();
     for (words, rows) in words.iter().zip(rows.as_chunks::<4>().0) {
         if pair(words[0], words[1]) | pair(words[2], words[3]) == 0 {
             continue;
@@ -379,6 +420,16 @@ fn is_input_map(map: u8) -> bool {
             | MAP_REDIRECT
             | MAP_REDIRECT_COOKIES
     )
+}
+
+/// Replaces the URL of a load and the target of a redirect, and no other.
+#[inline(always)]
+fn upgrade_record(policy: &Policy, record: &mut Record) {
+    match &mut record.kind {
+        Kind::Load => record.url = upgraded(policy, record.url),
+        Kind::Redirect(target) => *target = upgraded(policy, *target),
+        Kind::Document(_) | Kind::Script(_) | Kind::Picture => {}
+    }
 }
 
 /// Numbers 6 to 9.
@@ -699,9 +750,11 @@ impl Interpreter<'_> {
         }
     }
 
-    /// Opens a connection with this word where the labels allow it.
+    /// Opens a connection with this word, its URL replaced, where the labels
+    /// allow it.
     #[inline(always)]
     fn request(&mut self, connection: u32, word: u32) -> Option<()> {
+        let word = word & !255 | upgraded(self.policy, word % 256);
         let url = url_row(self.policy, word);
         let other = connection_row(self.policy, connection);
         let allowed = url[0] != NO_ADDRESS

@@ -16,13 +16,26 @@ pub struct Interpreter<'a> {
     pub seen: &'a mut Seen,
     /// The URL whose host's cookies the script works on.
     pub page: usize,
+    /// Whether it is a handler and not a document's script: for the events
+    /// alone.
+    pub is_handler: bool,
     /// The connection that the response came on.
     pub connection: usize,
     pub registers: [u32; REGISTERS],
 }
 
 /// The script ends here; the event says why.
+#[derive(Clone, Copy)]
 struct End(Event);
+
+/// What a step that sends a request names.
+#[derive(Clone, Copy)]
+struct Named {
+    /// The row of the step's number, and the URL after the replacement.
+    row: usize,
+    url: usize,
+    connection: usize,
+}
 
 /// How many of the steps that follow are skipped, or the end.
 type Outcome = Result<usize, End>;
@@ -147,17 +160,18 @@ impl Interpreter<'_> {
     /// Request URL a on connection b with handler c: opens b for a script,
     /// with the page as origin.
     fn send(&mut self, a: usize, b: usize, c: usize) -> Outcome {
-        let url = self.named(a, b, &SEND)?;
+        let named = self.named(a, b, &SEND)?;
         let handler = below(SCRIPTS, c, Event::EndSendHandler)?;
-        self.check_request(b, &url, &SEND)?;
+        self.check_labels(named, &SEND)?;
         let pending = Pending {
             kind: ConnectionKind::Script,
-            url: a,
+            url: named.url,
             origin: self.page,
             handler,
         };
-        self.request(b, pending, &SEND);
+        self.request(named, pending, &SEND);
         self.seen.note(Event::StepSend);
+        self.note_page();
         if self.output.len() == OUTPUT_BYTES {
             self.seen.note(Event::FullOutput);
         }
@@ -166,10 +180,10 @@ impl Interpreter<'_> {
 
     /// Request a picture of URL a on connection b. What c holds is ignored.
     fn picture(&mut self, a: usize, b: usize, c: usize) -> Outcome {
-        let url = self.named(a, b, &PICTURE)?;
-        self.check_request(b, &url, &PICTURE)?;
-        let pending = Pending::unhandled(ConnectionKind::Picture, a);
-        let carries = self.request(b, pending, &PICTURE);
+        let named = self.named(a, b, &PICTURE)?;
+        self.check_labels(named, &PICTURE)?;
+        let pending = Pending::unhandled(ConnectionKind::Picture, named.url);
+        let carries = self.request(named, pending, &PICTURE);
         self.seen.note(match carries {
             false => Event::StepPicture,
             true => Event::StepPictureCookies,
@@ -180,19 +194,39 @@ impl Interpreter<'_> {
         Ok(0)
     }
 
-    /// The URL of number a, where there is one and a connection b too.
-    fn named(&self, a: usize, b: usize, step: &RequestStep) -> Result<Url, End> {
-        let a = below(URLS, a, step.url_above)?;
-        let url = self.policy.url(a).ok_or(End(step.url_empty))?;
-        below(CONNECTIONS, b, step.connection)?;
-        Ok(*url)
+    /// URL a replaced by its https partner, where it has a row and there is a
+    /// connection b too.
+    fn named(&self, a: usize, b: usize, step: &RequestStep) -> Result<Named, End> {
+        let row = below(URLS, a, step.url_above)?;
+        let url = self.policy.upgraded(row);
+        self.policy.url(url).ok_or(End(step.url_empty))?;
+        let connection = below(CONNECTIONS, b, step.connection)?;
+        Ok(Named {
+            row,
+            url,
+            connection,
+        })
+    }
+
+    /// Whether labels allow it, and what they say of the row itself where
+    /// that was replaced.
+    fn check_labels(&mut self, named: Named, step: &RequestStep) -> Result<(), End> {
+        let checked = self.check_request(named.connection, named.url, step);
+        if named.url != named.row {
+            let row = self.check_request(named.connection, named.row, step);
+            let clause = |End(event)| event;
+            step.upgrade
+                .note(checked.map_err(clause), row.map_err(clause), self.seen);
+        }
+        checked
     }
 
     /// A request is allowed if: the URL's event endpoint is in the script
     /// readers; the other connection's readers are within the script readers;
     /// that connection fits the URL; the own writers are within that
     /// connection's writers and within the URL's writers.
-    fn check_request(&self, connection: usize, url: &Url, step: &RequestStep) -> Result<(), End> {
+    fn check_request(&self, connection: usize, url: usize, step: &RequestStep) -> Result<(), End> {
+        let url = self.url(url);
         let own = self.own();
         let other = self.policy.connection(connection);
         require(own.script_readers.holds(url.event_endpoint()), step.event)?;
@@ -205,13 +239,22 @@ impl Interpreter<'_> {
 
     /// Opens a connection, replacing what was there, and sends its request;
     /// whether that carries cookies.
-    fn request(&mut self, connection: usize, pending: Pending, step: &RequestStep) -> bool {
+    fn request(&mut self, named: Named, pending: Pending, step: &RequestStep) -> bool {
+        let Named {
+            row,
+            url,
+            connection,
+        } = named;
         self.note_opened(connection, step);
         self.state.pending[connection] = Some(pending);
         let carried = write_request(self.policy, self.state, connection, self.output, self.seen);
-        let host = self.host_of(pending.url);
+        let host = self.url(url).host();
         if carried.iter().any(|&(key, _)| !self.reads(host, key)) {
             self.seen.note(step.unreadable);
+        }
+        if url != row {
+            let upgrade = &step.upgrade;
+            upgrade.note_cookies(self.policy, self.state, [url, row], self.seen);
         }
         !carried.is_empty()
     }
@@ -242,12 +285,23 @@ impl Interpreter<'_> {
 
     /// The page's host.
     fn host(&self) -> usize {
-        self.host_of(self.page)
+        self.url(self.page).host()
     }
 
-    /// The host of a URL that was checked.
-    fn host_of(&self, url: usize) -> usize {
-        self.policy.url(url).expect("the URL was checked").host()
+    /// A URL that was checked.
+    fn url(&self, number: usize) -> &Url {
+        self.policy.url(number).expect("the URL was checked")
+    }
+
+    /// Whose page is the origin of a send, where that page is an http row of
+    /// an https host.
+    fn note_page(&mut self) {
+        if self.policy.partner(self.page).is_some() {
+            self.seen.note(match self.is_handler {
+                false => Event::StepSendHttpPage,
+                true => Event::StepSendHttpPageHandler,
+            });
+        }
     }
 
     /// What a request finds on the connection that it is about to open.

@@ -25,8 +25,12 @@ pub const REGISTERS: usize = 4;
 pub const POLICY_COOKIES: usize = 3 * URLS;
 /// First policy word of the connections.
 pub const POLICY_CONNECTIONS: usize = POLICY_COOKIES + 2 * COOKIES;
+/// The policy word of the hosts that are always https.
+pub const POLICY_HTTPS_HOSTS: usize = POLICY_CONNECTIONS + 3 * CONNECTIONS;
+/// First policy word of the https partners, one for each row.
+pub const POLICY_PARTNERS: usize = POLICY_HTTPS_HOSTS + 1;
 /// Words of a policy.
-pub const POLICY_WORDS: usize = POLICY_CONNECTIONS + 3 * CONNECTIONS;
+pub const POLICY_WORDS: usize = POLICY_PARTNERS + URLS;
 /// Bytes of the script table.
 pub const SCRIPTS_BYTES: usize = SCRIPTS * SCRIPT_BYTES;
 
@@ -52,6 +56,8 @@ pub const OUTPUT_BYTES: usize = STEPS * REQUEST_BYTES;
 pub const NO_ADDRESS: u32 = 255;
 /// Addresses are below this.
 pub const ADDRESSES: u32 = 32;
+/// The partner of a row that has none.
+pub const NO_PARTNER: u32 = 255;
 
 /// Kind of a connection that waits for a document.
 pub const KIND_DOCUMENT: u32 = 1;

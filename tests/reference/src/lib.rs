@@ -25,6 +25,7 @@ mod state;
 mod tally;
 mod tally_fast;
 mod tally_seen;
+mod upgrade;
 mod walk;
 
 pub use fast::feed_fast;

@@ -9,6 +9,7 @@ use crate::record::{self, Kind, Record};
 use crate::request::write_request;
 use crate::seen::{Event, Seen};
 use crate::state::{Pending, State};
+use crate::upgrade::{self, Upgrade};
 use crate::Answer;
 
 /// Feeds one record, as document 01 reads, rule by rule.
@@ -31,7 +32,7 @@ pub fn feed_noting(
     out: &mut [u8],
     seen: &mut Seen,
 ) -> Answer {
-    match judge(policy, scripts, state, record, out) {
+    match judge(policy, scripts, state, record, out, seen) {
         Err(refusal) => {
             seen.note(refusal.clause);
             Answer {
@@ -71,6 +72,7 @@ fn judge(
     state: &[u32],
     record: &[u8],
     out: &[u8],
+    seen: &mut Seen,
 ) -> Result<Accepted, Refusal> {
     check_output(out).map_err(refuse(OUTPUT_SHORT))?;
     let policy = Policy::read(policy).map_err(refuse(POLICY_BAD))?;
@@ -79,15 +81,19 @@ fn judge(
     record::check_map(record).map_err(refuse(KIND_UNKNOWN))?;
     record::check_key_map(record).map_err(refuse(KEY_MAP_EMPTY))?;
     record::check_length(record).map_err(refuse(CUT_OR_TOO_LONG))?;
-    let record = record::read(record);
+    let named = record::read(record);
+    record::check_range(&named).map_err(refuse(NAME_UNKNOWN))?;
+    let record = record::upgraded(&named, &policy);
     record::check_numbers(&record, &policy).map_err(refuse(NAME_UNKNOWN))?;
-    check_match(&record, &state).map_err(refuse(NOT_AWAITED))?;
+    check_match(&record, &state, &policy).map_err(refuse(NOT_AWAITED))?;
+    note_upgrade(&record, &named, &policy, seen);
     check_readers(&record, &policy).map_err(refuse(READERS_FORBID))?;
     check_writers(&record, &policy).map_err(refuse(WRITERS_FORBID))?;
     Ok(Accepted {
         policy,
         state,
         record,
+        named,
         output: Vec::new(),
     })
 }
@@ -110,13 +116,18 @@ fn check_scripts(scripts: &[u8]) -> Result<(), Event> {
 
 /// A response or redirect names a connection that holds its URL, and a
 /// response is of the connection's kind.
-fn check_match(record: &Record, state: &State) -> Result<(), Event> {
+fn check_match(record: &Record, state: &State, policy: &Policy) -> Result<(), Event> {
     if record.kind == Kind::Load {
         return Ok(());
     }
     let pending = state.pending[record.connection].ok_or(Event::MatchFree)?;
     if pending.url != record.url {
-        return Err(Event::MatchOtherUrl);
+        let holds_partner = policy.partner(record.url) == Some(pending.url);
+        return Err(match record.kind {
+            Kind::Redirect if holds_partner => Event::MatchPartnerRedirect,
+            _ if holds_partner => Event::MatchPartner,
+            _ => Event::MatchOtherUrl,
+        });
     }
     match record.kind {
         Kind::Response(kind) if kind != pending.kind => Err(match_clause(kind, pending.kind)),
@@ -178,6 +189,22 @@ fn check_writers(record: &Record, policy: &Policy) -> Result<(), Event> {
     }
 }
 
+/// The events of a record whose URL or target was replaced.
+fn upgrade_of(kind: Kind) -> &'static Upgrade {
+    match kind {
+        Kind::Redirect => &upgrade::REDIRECT,
+        _ => &upgrade::LOAD,
+    }
+}
+
+/// What labels say of the record, where it is not the one that was named.
+fn note_upgrade(record: &Record, named: &Record, policy: &Policy, seen: &mut Seen) {
+    if record != named {
+        let labels = |of| check_readers(of, policy).and_then(|()| check_writers(of, policy));
+        upgrade_of(record.kind).note(labels(record), labels(named), seen);
+    }
+}
+
 /// A URL whose number has been checked.
 fn known_url(policy: &Policy, number: usize) -> &Url {
     policy.url(number).expect("the URL was checked")
@@ -188,6 +215,8 @@ struct Accepted {
     policy: Policy,
     state: State,
     record: Record,
+    /// The record before URL or target was replaced.
+    named: Record,
     output: Vec<u8>,
 }
 
@@ -231,7 +260,7 @@ impl Accepted {
         let pending = &mut self.state.pending[self.record.connection];
         let pending = pending.as_mut().expect("the connection was matched");
         pending.url = self.record.target;
-        let kind = pending.kind;
+        let Pending { kind, origin, .. } = *pending;
         let carries = self.request(seen);
         seen.note(match (kind, carries) {
             (ConnectionKind::Document, _) => Event::RedirectDocument,
@@ -239,6 +268,9 @@ impl Accepted {
             (ConnectionKind::Picture, false) => Event::RedirectPicture,
             (ConnectionKind::Picture, true) => Event::RedirectPictureCookies,
         });
+        if kind == ConnectionKind::Script && self.policy.partner(origin).is_some() {
+            seen.note(Event::RedirectHttpOrigin);
+        }
     }
 
     /// Response: its cookies are stored and the connection is freed. Then a
@@ -273,6 +305,7 @@ impl Accepted {
             output: &mut self.output,
             seen,
             page,
+            is_handler: self.record.kind == Kind::Response(ConnectionKind::Script),
             connection: self.record.connection,
             registers: [value, 0, 0, 0],
         };
@@ -299,7 +332,19 @@ impl Accepted {
     fn request(&mut self, seen: &mut Seen) -> bool {
         let number = self.record.connection;
         let carried = write_request(&self.policy, &self.state, number, &mut self.output, seen);
+        self.note_cookies(seen);
         !carried.is_empty()
+    }
+
+    fn note_cookies(&self, seen: &mut Seen) {
+        let Accepted { record, named, .. } = self;
+        if record != named {
+            let urls = [record, named].map(|of| match of.kind {
+                Kind::Redirect => of.target,
+                _ => of.url,
+            });
+            upgrade_of(record.kind).note_cookies(&self.policy, &self.state, urls, seen);
+        }
     }
 
     fn note_kind(&self, seen: &mut Seen) {
@@ -316,6 +361,12 @@ impl Accepted {
             (Kind::Redirect, false) => Event::Redirect,
             (Kind::Redirect, true) => Event::RedirectCookies,
         });
+        if self.policy.partner(self.record.url).is_some() {
+            seen.note(match self.record.kind {
+                Kind::Redirect => Event::RedirectHeldHttp,
+                _ => Event::ResponseHeldHttp,
+            });
+        }
     }
 
     fn note_stored(&self, seen: &mut Seen) {

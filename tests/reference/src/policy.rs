@@ -1,4 +1,5 @@
-//! The policy: URLs, cookie tags and connections.
+//! The policy: URLs, cookie tags, connections, and the hosts that are always
+//! https.
 
 use crate::endpoint::{Endpoint, EndpointSet};
 use crate::layout::*;
@@ -27,6 +28,11 @@ impl Url {
     /// Its event endpoint is the http endpoint of its host.
     pub fn event_endpoint(&self) -> Endpoint {
         Endpoint(self.host() as u32)
+    }
+
+    /// Whether it is https and not http.
+    fn is_https(&self) -> bool {
+        self.address >= HOSTS as u32
     }
 }
 
@@ -63,6 +69,8 @@ pub struct Policy {
     urls: Vec<Option<Url>>,
     cookies: Vec<CookieTag>,
     connections: Vec<ConnectionTag>,
+    /// The number of each row's https partner, where it has one.
+    partners: Vec<Option<usize>>,
 }
 
 impl Policy {
@@ -72,18 +80,37 @@ impl Policy {
             return Err(Event::PolicyLength);
         }
         let urls = words[..POLICY_COOKIES].chunks(3).map(read_url);
+        let urls = urls.collect::<Result<Vec<_>, _>>()?;
         let cookies = words[POLICY_COOKIES..POLICY_CONNECTIONS].chunks(2);
-        let connections = words[POLICY_CONNECTIONS..].chunks(3);
+        let connections = words[POLICY_CONNECTIONS..POLICY_HTTPS_HOSTS].chunks(3);
+        let connections = connections.map(read_connection).collect::<Result<_, _>>()?;
+        let https_hosts = read_https_hosts(words[POLICY_HTTPS_HOSTS])?;
+        let partners = (0..URLS).map(|number| {
+            let word = words[POLICY_PARTNERS + number];
+            read_partner(word, urls[number].as_ref(), &https_hosts, &urls)
+        });
         Ok(Policy {
-            urls: urls.collect::<Result<_, _>>()?,
             cookies: cookies.map(read_cookie_tag).collect(),
-            connections: connections.map(read_connection).collect::<Result<_, _>>()?,
+            connections,
+            partners: partners.collect::<Result<_, _>>()?,
+            urls,
         })
     }
 
     /// The URL of this number; none when above 63 or an empty row.
     pub fn url(&self, number: usize) -> Option<&Url> {
         self.urls.get(number)?.as_ref()
+    }
+
+    /// The number 0 to 63 after the replacement: that of the row's partner,
+    /// where it has one.
+    pub fn upgraded(&self, number: usize) -> usize {
+        self.partner(number).unwrap_or(number)
+    }
+
+    /// The partner of a row, which only an http row of an https host has.
+    pub fn partner(&self, number: usize) -> Option<usize> {
+        self.partners[number]
     }
 
     /// The tag of a host's cookie.
@@ -140,4 +167,49 @@ fn read_connection(words: &[u32]) -> Result<ConnectionTag, Event> {
         return Err(Event::PolicyScriptReaders);
     }
     Ok(tag)
+}
+
+/// Hosts are bits 0 to 15, other bits are zero; whether each host is listed.
+fn read_https_hosts(word: u32) -> Result<Vec<bool>, Event> {
+    if word >= 1 << HOSTS {
+        return Err(Event::PolicyHttpsHosts);
+    }
+    Ok((0..HOSTS).map(|host| word >> host & 1 == 1).collect())
+}
+
+/// An http row of a listed host names a non-empty https row of the same host;
+/// every other row has 255.
+fn read_partner(
+    word: u32,
+    row: Option<&Url>,
+    https_hosts: &[bool],
+    urls: &[Option<Url>],
+) -> Result<Option<usize>, Event> {
+    let clause = match row {
+        None => Event::PolicyPartnerOfEmpty,
+        Some(url) if url.is_https() => Event::PolicyPartnerOfHttps,
+        Some(url) if !https_hosts[url.host()] => Event::PolicyPartnerNotListed,
+        Some(url) => return read_https_row(word, url.host(), urls).map(Some),
+    };
+    match word {
+        NO_PARTNER => Ok(None),
+        _ => Err(clause),
+    }
+}
+
+/// The number of a non-empty https row of this host.
+fn read_https_row(word: u32, host: usize, urls: &[Option<Url>]) -> Result<usize, Event> {
+    if word == NO_PARTNER {
+        return Err(Event::PolicyPartnerMissing);
+    }
+    let number = word as usize;
+    let row = urls.get(number).ok_or(Event::PolicyPartnerAbove)?;
+    let partner = row.as_ref().ok_or(Event::PolicyPartnerEmpty)?;
+    if !partner.is_https() {
+        return Err(Event::PolicyPartnerHttp);
+    }
+    if partner.host() != host {
+        return Err(Event::PolicyPartnerHost);
+    }
+    Ok(number)
 }

@@ -187,12 +187,33 @@ fn read_kind(map: u8) -> Kind {
     }
 }
 
-/// Its URL or target is above 63 or an empty row, its connection above 31, or
-/// its script above 15.
-pub fn check_numbers(record: &Record, policy: &Policy) -> Result<(), Event> {
+/// Its URL or target is above 63.
+pub fn check_range(record: &Record) -> Result<(), Event> {
     if record.url >= URLS {
         return Err(Event::NumberUrlAbove);
     }
+    if record.target >= URLS {
+        return Err(Event::NumberTargetAbove);
+    }
+    Ok(())
+}
+
+/// The URL of a load and the target of a redirect are replaced by their https
+/// partner. The URL of a response, and the one that a redirect leaves, are
+/// not.
+pub fn upgraded(record: &Record, policy: &Policy) -> Record {
+    let mut record = record.clone();
+    match record.kind {
+        Kind::Load => record.url = policy.upgraded(record.url),
+        Kind::Redirect => record.target = policy.upgraded(record.target),
+        Kind::Response(_) => {}
+    }
+    record
+}
+
+/// Its URL or target is an empty row, its connection above 31, or its script
+/// above 15.
+pub fn check_numbers(record: &Record, policy: &Policy) -> Result<(), Event> {
     if policy.url(record.url).is_none() {
         return Err(Event::NumberUrlEmpty);
     }
@@ -203,7 +224,6 @@ pub fn check_numbers(record: &Record, policy: &Policy) -> Result<(), Event> {
         return Err(Event::NumberScript);
     }
     match record.kind {
-        Kind::Redirect if record.target >= URLS => Err(Event::NumberTargetAbove),
         Kind::Redirect if policy.url(record.target).is_none() => Err(Event::NumberTargetEmpty),
         _ => Ok(()),
     }

@@ -2,6 +2,7 @@
 //! connection, and open the connection alike: only the events differ.
 
 use crate::seen::Event;
+use crate::upgrade::{self, Upgrade};
 
 /// The events of such a step.
 pub struct RequestStep {
@@ -21,6 +22,8 @@ pub struct RequestStep {
     pub same: Event,
     /// What the request carries.
     pub unreadable: Event,
+    /// What came of a URL that was replaced.
+    pub upgrade: Upgrade,
 }
 
 /// Request a URL with a handler.
@@ -38,6 +41,7 @@ pub const SEND: RequestStep = RequestStep {
     replaces_picture: Event::StepSendReplacesPicture,
     same: Event::StepSendSame,
     unreadable: Event::CarriedUnreadable,
+    upgrade: upgrade::SEND,
 };
 
 /// Request a picture.
@@ -55,4 +59,5 @@ pub const PICTURE: RequestStep = RequestStep {
     replaces_picture: Event::StepPictureReplacesPicture,
     same: Event::StepPictureSame,
     unreadable: Event::CarriedUnreadablePicture,
+    upgrade: upgrade::PICTURE,
 };

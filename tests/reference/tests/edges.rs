@@ -8,7 +8,9 @@ use std::fmt::Write;
 use std::fs;
 
 use common::{Feed, FEEDS};
-use reference::layout::{OUTPUT_BYTES, POLICY_WORDS, SCRIPTS_BYTES, STATE_WORDS, URLS};
+use reference::layout::{
+    NO_PARTNER, OUTPUT_BYTES, POLICY_PARTNERS, POLICY_WORDS, SCRIPTS_BYTES, STATE_WORDS, URLS,
+};
 use reference::Answer;
 
 const FOLDER: &str = concat!(env!("CARGO_MANIFEST_DIR"), "/../../crates/monitor_edges");
@@ -29,6 +31,7 @@ struct Lent {
 impl Lent {
     fn new() -> Lent {
         let mut policy = vec![0; POLICY_WORDS + SPARE];
+        policy[POLICY_PARTNERS..POLICY_WORDS].fill(NO_PARTNER);
         for url in policy.chunks_exact_mut(3).take(URLS) {
             url[0] = 255;
         }
