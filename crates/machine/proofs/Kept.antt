@@ -1,5 +1,5 @@
 -- What the machine keeps through stores, requests, script steps and events: a sound state, Q of each cookie value and register, and R of each
--- request that is sent; and how many requests there are at most. Sound states and the sizes of words are two instances.
+-- request that is sent; and how many requests there are at most. Sound states, the sizes of words and URLs that are kept from http are its instances.
 use Rattle.prelude.proofs.Kit.{ℕ, _≤_, _<_, _+_, suc, _^_, zero, _*_, zero-le, _%_, arith, _&&_, List, _∷_, [], refl, T}
 use Rattle.prelude.proofs.Kit.{eqb→eq, ltb→lt, length, getD, set, length-append}
 use lib.Dec.{lit≤}

@@ -51,7 +51,7 @@ module _ (p : List ℕ) (good : T (wellFormed p)) where
         (λ r. let t = has-partner r in absurd (omega (arith, eqb→eq v noPartner n, ltb→lt v urlRows (search parts))))
 
   -- a URL that is asked for
-  pub url-kept : (u : ℕ) → T (isUrl p (upgraded p u)) → T (not (isReplaced p (upgraded p u)))
+  url-kept : (u : ℕ) → T (isUrl p (upgraded p u)) → T (not (isReplaced p (upgraded p u)))
   unfolding upgraded isUrl
   url-kept u =
       one (λ v. T (isUrl p v) → T (not (isReplaced p v))) (ltb u urlRows && not (eqb (urlPartner p u) noPartner))

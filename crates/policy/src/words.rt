@@ -27,7 +27,7 @@ pub const PARTNERS_AT: usize = HTTPS_HOSTS_AT + 1;
 
 pub const WORDS: usize = PARTNERS_AT + URL_ROWS;
 
-// The partner of a URL that has none.
+// What stands in the place of a partner where a row has none.
 pub const NO_PARTNER: u32 = 255;
 
 pub fn url_address(policy: &[u32], url: usize) -> u32
