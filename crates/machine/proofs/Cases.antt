@@ -1,7 +1,7 @@
 -- The worked cases hold: they are computed.
-use Rattle.machine.specs.Cases.{with, emptyRows, policyWith, stepBytes, stepsBytes, scriptsWith, stateWith, sameNumbers, gives, rightFrom, allRight, CasesAToJ}
+use Rattle.machine.specs.Cases.{with, emptyRows, policyWith, stepBytes, stepsBytes, scriptsWith, stateWith, sameNumbers, gives, rightFrom, allRight, eachGives, CasesAToJ}
 use Rattle.machine.specs.MoreCases.{MoreCases}
-use Rattle.machine.specs.HttpsCases.{eachGives, HttpsCases}
+use Rattle.machine.specs.HttpsCases.{HttpsCases}
 use Rattle.machine.proofs.Computing.{machine}
 
 -- what the cases are told with, opened too

@@ -131,6 +131,11 @@ oneCall scripts start fed number steps sent state = record {
 abbrev pub oneRefused : List Words → List ℕ → ℕ → Case
 oneRefused start fed number = oneCall [] start fed number 0 [] start
 
+-- the page, URL 0 on connection 0, whose script is one step: it goes on after the step, or ends; the jar stays
+abbrev pub pageWith : List Words → Step → ℕ → List ℕ → List Words → Case
+pageWith jar code steps sent state =
+    oneCall (scriptOf 1 (code ∷ end ∷ []) ∷ []) (loading 0 0 ∷ jar) (0x0b ∷ 0x00 ∷ 0x00 ∷ 0x01 ∷ []) 0 steps sent (state ++ jar)
+
 -- the buffer given, filled with a byte that stands in no request of a case
 abbrev pub bufferOf : ℕ → List ℕ
 bufferOf room = replicate room 0xee
@@ -160,6 +165,15 @@ rightFrom p scripts room s (c ∷ cs) =
 unfoldable pub allRight : List ℕ → List Case → Bool
 allRight p [] = true
 allRight p (c ∷ cs) = rightFrom p (c .scripts) (c .room) (stateWith (c .start)) (c .calls) && allRight p cs
+
+-- the empty record, which is refused with 2 or, where the policy is well formed, with 10
+abbrev pub noRecord : ℕ → List Case
+noRecord number = oneRefused [] [] number ∷ []
+
+-- so is it under policies that differ from one in some words
+unfoldable pub eachGives : List ℕ → ℕ → List (List Words) → Bool
+eachGives p number [] = true
+eachGives p number (changed ∷ more) = allRight (with changed p) (noRecord number) && eachGives p number more
 
 -- ---- document 01, "A small post"
 

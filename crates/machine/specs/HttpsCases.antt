@@ -1,15 +1,11 @@
--- Worked cases of hosts that are always https: each of the four ways to ask for a URL, what is left alone, what arrives, and each way in which
--- number 2 refuses the words that list them and their partners.
+-- Worked cases of hosts that are always https: each of the four ways to ask for a URL, what is left alone, and what arrives.
 use Prim.Native.Nat.{ℕ}
-use mathlib.Core.Bool.{Bool, true, _&&_}
 use mathlib.Core.List.{List, [], _∷_, _++_}
 use lib.Dec.{T}
-use lib.ListN.{take}
-use Rattle.machine.specs.Policy.{noPartner}
 use Rattle.machine.specs.Scripts.{Step, end, sendRequest, sendPicture}
 use Rattle.machine.specs.Machine.{outputRoom}
 use Rattle.machine.specs.Cases.{Words, url, cookieLabel, connection, alwaysHttps, partner, policyWith, scriptsWith, scriptOf, valueIs, keysAre}
-use Rattle.machine.specs.Cases.{loading, requesting, picturing, Case, call, refused, oneCall, oneRefused, allRight}
+use Rattle.machine.specs.Cases.{loading, requesting, picturing, Case, call, refused, oneCall, oneRefused, pageWith, allRight}
 
 -- ---- a policy
 
@@ -75,19 +71,14 @@ redirectGoes u n = oneCall [] (loading n 0 ∷ bothStored) (0x23 ∷ 0x00 ∷ n 
 abbrev pub redirectRefused : ℕ → ℕ → ℕ → Case
 redirectRefused u n number = oneRefused (loading n 0 ∷ bothStored) (0x23 ∷ 0x00 ∷ n ∷ u ∷ []) number
 
--- the page with one step: it goes on after its request, or ends
-abbrev pub pageWith : Step → ℕ → List ℕ → List Words → Case
-pageWith code steps sent state =
-    oneCall (scriptOf 1 (code ∷ end ∷ []) ∷ []) (loading 0 0 ∷ bothStored) (0x0b ∷ 0x00 ∷ 0x00 ∷ 0x01 ∷ []) 0 steps sent (state ++ bothStored)
-
 abbrev pub scriptGoes : ℕ → ℕ → Case
-scriptGoes u n = pageWith (sendRequest u n 3) 2 (0x0f ∷ byHttps n ++ (0x03 ∷ [])) (requesting n 0 3 2 ∷ [])
+scriptGoes u n = pageWith bothStored (sendRequest u n 3) 2 (0x0f ∷ byHttps n ++ (0x03 ∷ [])) (requesting n 0 3 2 ∷ [])
 
 abbrev pub pictureGoes : ℕ → ℕ → Case
-pictureGoes u n = pageWith (sendPicture u n) 2 (0x47 ∷ byHttps n) (picturing n 2 ∷ [])
+pictureGoes u n = pageWith bothStored (sendPicture u n) 2 (0x47 ∷ byHttps n) (picturing n 2 ∷ [])
 
 abbrev pub ends : Step → Case
-ends code = pageWith code 1 [] []
+ends code = pageWith bothStored code 1 [] []
 
 abbrev pub casesOfAsking : List Case
 casesOfAsking =
@@ -139,8 +130,8 @@ casesOfLeaving =
     -- Host 2 is not listed: URL 9 stays by http, though there is an https one.
     oneCall [] bothStored (0x03 ∷ 0x09 ∷ 0x01 ∷ []) 0 0 (0x03 ∷ 0x09 ∷ 0x01 ∷ []) (holding 9)
     ∷ oneCall [] (holding 0) (0x23 ∷ 0x00 ∷ 0x01 ∷ 0x09 ∷ []) 0 0 (0x03 ∷ 0x09 ∷ 0x01 ∷ []) (holding 9)
-    ∷ pageWith (sendRequest 9 1 3) 2 (0x0b ∷ 0x09 ∷ 0x01 ∷ 0x03 ∷ []) (requesting 1 0 3 9 ∷ [])
-    ∷ pageWith (sendPicture 9 1) 2 (0x43 ∷ 0x09 ∷ 0x01 ∷ []) (picturing 1 9 ∷ [])
+    ∷ pageWith bothStored (sendRequest 9 1 3) 2 (0x0b ∷ 0x09 ∷ 0x01 ∷ 0x03 ∷ []) (requesting 1 0 3 9 ∷ [])
+    ∷ pageWith bothStored (sendPicture 9 1) 2 (0x43 ∷ 0x09 ∷ 0x01 ∷ []) (picturing 1 9 ∷ [])
     -- A number above 63 has no partner: not 64, whose word would be past the policy's last, nor 65, which is 1 and 64. URL 11 has an empty row.
     ∷ loadRefused 64 1 6
     ∷ redirectRefused 64 1 6
@@ -192,70 +183,5 @@ casesOfArriving =
     ∷ oneCall [] (pageByHttp 9) (0x23 ∷ 0x09 ∷ 0x02 ∷ 0x00 ∷ []) 0 0 (0x0b ∷ 0x00 ∷ 0x02 ∷ 0x03 ∷ []) (pageByHttp 0)
     ∷ []
 
--- ---- number 2
-
--- the empty record, which is refused with 2 or, where the policy is well formed, with 10
-abbrev pub noRecord : ℕ → List Case
-noRecord number = oneRefused [] [] number ∷ []
-
--- R with words changed
-unfoldable pub eachGives : ℕ → List (List Words) → Bool
-eachGives number [] = true
-eachGives number (ws ∷ wss) = allRight (policyWith (ws ++ wordsR)) (noRecord number) && eachGives number wss
-
-abbrev pub noPartners : List Words
-noPartners = partner 1 noPartner ∷ partner 3 noPartner ∷ partner 5 noPartner ∷ partner 7 noPartner ∷ partner 8 noPartner ∷ []
-
-abbrev pub notWellFormed : List (List Words)
-notWellFormed =
-    -- a bit that is no host's, lowest and highest
-    (alwaysHttps 0x10002 ∷ [])
-    ∷ (alwaysHttps 0x80000002 ∷ [])
-    -- URL 1 without partner; its partner is an empty row; at another host; by http, another and itself; above 63, also where the words that follow
-    -- the rows would make of it a URL by https at host 1
-    ∷ (partner 1 noPartner ∷ [])
-    ∷ (partner 1 63 ∷ [])
-    ∷ (partner 1 10 ∷ [])
-    ∷ (partner 1 3 ∷ [])
-    ∷ (partner 1 1 ∷ [])
-    ∷ (partner 1 64 ∷ [])
-    ∷ (partner 1 64 ∷ cookieLabel 0 0 17 0 ∷ [])
-    ∷ (partner 1 0x102 ∷ [])
-    ∷ (partner 1 0xffffffff ∷ [])
-    -- a partner where there must be none: by https; at a host that is not listed; on empty rows, also one that is 255 but for a high bit
-    ∷ (partner 2 2 ∷ [])
-    ∷ (partner 9 10 ∷ [])
-    ∷ (partner 11 2 ∷ [])
-    ∷ (partner 63 0 ∷ [])
-    ∷ (partner 11 0x1ff ∷ [])
-    -- the same where no host is listed
-    ∷ (alwaysHttps 0 ∷ [])
-    ∷ (alwaysHttps 0 ∷ noPartners ++ (partner 11 2 ∷ []))
-    ∷ (alwaysHttps 0 ∷ noPartners ++ (partner 63 0x1ff ∷ []))
-    -- a URL without partner at another host that is listed; in the first row and in the last; at the last host
-    ∷ (alwaysHttps 0x6 ∷ [])
-    ∷ (url 0 1 0xffffffff 0xffffffff ∷ [])
-    ∷ (url 63 1 0xffffffff 0xffffffff ∷ [])
-    ∷ (url 63 15 0xffffffff 0xffffffff ∷ alwaysHttps 0x8002 ∷ [])
-    ∷ []
-
-abbrev pub stillWellFormed : List (List Words)
-stillWellFormed =
-    []
-    -- no host need be listed; one that has no URL may be; a partner needs no more readers than any URL, and no writers
-    ∷ (alwaysHttps 0 ∷ noPartners)
-    ∷ (alwaysHttps 0x8002 ∷ [])
-    ∷ (url 2 17 0x2 0 ∷ [])
-    -- the last row may be a partner, and have one
-    ∷ (url 63 17 0x2 0 ∷ partner 1 63 ∷ [])
-    ∷ (url 63 1 0x2 0 ∷ partner 63 2 ∷ [])
-    ∷ []
-
 abbrev pub HttpsCases : Type 0
-HttpsCases = T (
-    allRight policyR (casesOfAsking ++ (casesOfLeaving ++ casesOfArriving))
-    && (eachGives 2 notWellFormed
-    && (eachGives 10 stillWellFormed
-    && (allRight (take 544 policyR) (noRecord 2)
-    && (allRight (take 608 policyR) (noRecord 2)
-    && allRight (policyR ++ (noPartner ∷ [])) (noRecord 2))))))
+HttpsCases = T (allRight policyR (casesOfAsking ++ (casesOfLeaving ++ casesOfArriving)))
