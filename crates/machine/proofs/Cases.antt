@@ -2,6 +2,7 @@
 use Rattle.machine.specs.Cases.{with, emptyRows, policyWith, stepBytes, stepsBytes, scriptsWith, stateWith, sameNumbers, gives, rightFrom, allRight, eachGives, CasesAToJ}
 use Rattle.machine.specs.MoreCases.{MoreCases}
 use Rattle.machine.specs.HttpsCases.{HttpsCases}
+use Rattle.machine.specs.EntryCases.{EntryCases}
 use Rattle.machine.proofs.Computing.{machine}
 
 -- what the cases are told with, opened too
@@ -20,3 +21,7 @@ more-cases = tt
 pub https-cases : HttpsCases
 unfolding cases
 https-cases = tt
+
+pub entry-cases : EntryCases
+unfolding cases
+entry-cases = tt

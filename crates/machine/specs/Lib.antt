@@ -5,6 +5,7 @@ pub mod Machine
 pub mod Cases
 pub mod MoreCases
 pub mod HttpsCases
+pub mod EntryCases
 pub mod Guarantees
 pub mod Secrecy
 pub mod SecrecyExamples

@@ -1,9 +1,9 @@
 -- The policy (document 01, "The policy"): its 609 words by name, when it is well formed, and the questions that are asked of it.
 -- A connection is document 01's lane; readers and writers are its readers and authors.
-use Prim.Native.Nat.{ℕ, _+_, _*_, _^_}
+use Prim.Native.Nat.{ℕ, _+_, _-_, _*_, _^_}
 use mathlib.Core.Bool.{Bool, not, _&&_, _||_}
 use mathlib.Core.List.{List}
-use lib.Dec.{ltb, eqb}
+use lib.Dec.{ltb, leb, eqb}
 use lib.ListN.{length, getD}
 use Rattle.prelude.specs.Choice.{branch}
 use Rattle.labels.specs.Membership.{endpoints, allBelow}
@@ -38,8 +38,16 @@ abbrev pub policyWords : ℕ
 policyWords = partnersAt + urlRows
 
 -- words 0 to 191: URL u has the words address, readers, writers
-abbrev pub urlAddress : List ℕ → ℕ → ℕ
-urlAddress p u = getD p (3 * u) 0
+abbrev pub addressWord : List ℕ → ℕ → ℕ
+addressWord p u = getD p (3 * u) 0
+
+-- an entry, a URL to which anyone may lead (002's trusted entry points), has 32 more than its address there
+unfoldable pub isEntry : List ℕ → ℕ → Bool
+isEntry p u = leb endpoints (addressWord p u) && ltb (addressWord p u) (endpoints + endpoints)
+
+-- the address; any word from 64 on stays what it is, and is none
+unfoldable pub urlAddress : List ℕ → ℕ → ℕ
+urlAddress p u = branch (isEntry p u) (addressWord p u - endpoints) (addressWord p u)
 
 abbrev pub urlReaders : List ℕ → ℕ → ℕ
 urlReaders p u = getD p (3 * u + 1) 0
@@ -96,7 +104,7 @@ abbrev pub noAddress : ℕ
 noAddress = 255
 
 unfoldable pub emptyRow : List ℕ → ℕ → Bool
-emptyRow p u = eqb (urlAddress p u) noAddress && (eqb (urlReaders p u) 0 && eqb (urlWriters p u) 0)
+emptyRow p u = eqb (addressWord p u) noAddress && (eqb (urlReaders p u) 0 && eqb (urlWriters p u) 0)
 
 -- a number that names a URL: it has a row that is not empty
 unfoldable pub isUrl : List ℕ → ℕ → Bool
@@ -161,6 +169,10 @@ mayRead p n c = within (scriptReaders p n) (cookieReaders p c) && within (cookie
 unfoldable pub mayWrite : List ℕ → ℕ → ℕ → Bool
 mayWrite p n c = within (cookieReaders p c) (scriptReaders p n) && within (connectionWriters p n) (cookieWriters p c)
 
+-- writers may lead to URL u, by a redirect or by a script's request: they are among its own, or it is an entry
+unfoldable pub mayReach : List ℕ → ℕ → ℕ → Bool
+mayReach p writers u = isEntry p u || within writers (urlWriters p u)
+
 -- steps 5 and 7: it requests URL u on connection m
 unfoldable pub maySend : List ℕ → ℕ → ℕ → ℕ → Bool
 maySend p n u m =
@@ -168,7 +180,7 @@ maySend p n u m =
     && (within (connectionReaders p m) (scriptReaders p n)
     && (fits p m u
     && (within (connectionWriters p n) (connectionWriters p m)
-    && within (connectionWriters p n) (urlWriters p u))))
+    && mayReach p (connectionWriters p n) u)))
 
 -- what 8 and 9 ask of a load of u on connection n, each in the order of its conditions
 unfoldable pub loadReaders : List ℕ → ℕ → ℕ → Bool
@@ -182,4 +194,4 @@ unfoldable pub redirectReaders : List ℕ → ℕ → ℕ → Bool
 redirectReaders p n t = holds (connectionReaders p n) (urlEvent p t) && within (connectionReaders p n) (urlReaders p t)
 
 unfoldable pub redirectWriters : List ℕ → ℕ → ℕ → Bool
-redirectWriters p n t = holds (connectionWriters p n) (urlMessage p t) && within (connectionWriters p n) (urlWriters p t)
+redirectWriters p n t = holds (connectionWriters p n) (urlMessage p t) && mayReach p (connectionWriters p n) t
