@@ -1,15 +1,21 @@
 -- The partners of a policy's URLs: how the code's tests of an address and of a number are those of the definitions.
-use Rattle.prelude.proofs.Kit.{ℕ, _≤_, _<_, _+_, arith, _&&_, false, not, List, _≡_, sym, _∙_, subst, ne-eqb, le-ltb, lt-ltb}
-use Rattle.prelude.proofs.Kit.{T, eqb, eqb→eq, not-T, and-r, and-i}
+use Rattle.prelude.proofs.Kit.{ℕ, _≤_, _<_, _+_, arith, true, false, List, _≡_, sym, _∙_, subst, ne-eqb, le-ltb, lt-ltb, T, eqb, ltb→lt, not-T}
+use mathlib.Core.Bool.{and-false}
 use Rattle.prelude.proofs.Choices.{parts, branch-false}
+use Rattle.labels.specs.Membership.{endpoints}
 use Rattle.labels.specs.Sets.{holds, within}
 use Rattle.labels.specs.Addresses.{hosts, eventSet}
-use Rattle.labels.proofs.Below.{same}
 use Rattle.labels.proofs.Endpoints.{event-within}
 use Rattle.labels.proofs.Words.{empty-word, empty-holds}
-use Rattle.machine.specs.Policy.{urlRows, urlAddress, urlHost, httpsHosts, urlPartner, noAddress, noPartner, emptyRow, isUrl, isReplaced, isPartner, partnerWellFormed}
+use Rattle.machine.specs.Policy.{urlRows, addressWord, urlAddress, urlHost, httpsHosts, urlPartner, noAddress, noPartner, emptyRow, isUrl, isReplaced, isPartner, partnerWellFormed}
+use Rattle.policy.proofs.Rows.{named-full}
 
 module _ (p : List ℕ) (u : ℕ) where
+  -- a URL that is replaced has an address
+  pub replaced-named : isReplaced p u ≡ true → urlAddress p u < endpoints
+  unfolding isReplaced
+  replaced-named e = let t = subst T (sym e) tt in let l = ltb→lt (urlAddress p u) hosts (search parts) in omega arith
+
   -- a URL that is not by http
   pub kept-https : hosts ≤ urlAddress p u → false ≡ isReplaced p u
   unfolding isReplaced
@@ -25,14 +31,13 @@ module _ (p : List ℕ) (u : ℕ) where
   unfolding isPartner isUrl
   partner-beyond v l = rw (le-ltb v urlRows l)
 
-  pub partner-row : (v : ℕ) → v < urlRows → eqb (urlAddress p v) (hosts + urlHost p u) ≡ isPartner p u v
+  pub partner-unnamed : (v : ℕ) → endpoints ≤ urlAddress p v → false ≡ isPartner p u v
+  unfolding isPartner
+  partner-unnamed v l = rw (ne-eqb (urlAddress p v) (hosts + urlHost p u) (λ e. absurd (omega arith)), and-false)
+
+  pub partner-row : (v : ℕ) → v < urlRows → urlAddress p v < endpoints → eqb (urlAddress p v) (hosts + urlHost p u) ≡ isPartner p u v
   unfolding isPartner isUrl emptyRow
-  partner-row v l =
-      let is = eqb (urlAddress p v) (hosts + urlHost p u) in
-      rw (lt-ltb v urlRows l)
-      (same is (not (emptyRow p v) && is)
-      (λ t. let e = eqb→eq (urlAddress p v) (hosts + urlHost p u) t in and-i (not (emptyRow p v)) is (rw (ne-eqb (urlAddress p v) noAddress (λ f. absurd (omega (arith, e, f)))) tt) t)
-      (λ t. and-r (not (emptyRow p v)) is t))
+  partner-row v l a = rw (lt-ltb v urlRows l, ne-eqb (addressWord p v) noAddress (named-full p v a))
 
   -- where no host is listed
   pub none-listed : httpsHosts p ≡ 0 → eqb (urlPartner p u) noPartner ≡ partnerWellFormed p u

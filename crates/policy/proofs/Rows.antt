@@ -1,9 +1,8 @@
 -- The rows of a policy: a test of the address settles whether one is well formed, and whether it is empty.
 use Rattle.prelude.proofs.Kit.{ℕ, _≤_, _<_, _+_, _^_, arith, true, _&&_, false, not, and-assoc, List, ⊎-elim, _≡_, sym, _∙_, subst, ne-eqb}
-use Rattle.prelude.proofs.Kit.{le-ltb, lt-ltb, eq-eqb, T, eqb, ltb, ltb→lt, T-not, length, and-l}
+use Rattle.prelude.proofs.Kit.{le-ltb, lt-ltb, eq-eqb, T, eqb, ltb, ltb→lt, T-not, not-T, length, and-l}
 use mathlib.Core.Bool.{or-false}
-use lib.Dec.{leb, leb→le, le→leb}
-use borrow.Author.Tests.{leb-true}
+use lib.Dec.{leb, leb→le, nleb→lt}
 use Rattle.prelude.proofs.Choices.{is-true, parts}
 use Rattle.labels.specs.Membership.{endpoints, allBelow}
 use Rattle.labels.specs.Sets.{holds, within}
@@ -11,25 +10,28 @@ use Rattle.labels.specs.Addresses.{hosts, eventSet}
 use Rattle.labels.proofs.Below.{same, all-at, all-of, or-cases, or-l}
 use Rattle.labels.proofs.Endpoints.{event-within}
 use Rattle.labels.proofs.Words.{within-none}
-use Rattle.machine.specs.Policy.{policyWords, urlRows, connections, urlAddress, urlReaders, urlWriters, urlEvent, httpsHosts, noAddress, emptyRow, isUrl, rowWellFormed, connectionWellFormed, partnerWellFormed, wellFormed}
+use Rattle.machine.specs.Policy.{policyWords, urlRows, connections, addressWord, urlAddress, urlReaders, urlWriters, urlEvent, httpsHosts, noAddress, emptyRow, isUrl, rowWellFormed, connectionWellFormed, partnerWellFormed, wellFormed}
 use Rattle.policy.specs.Given.{WellFormed, Url}
+use Rattle.policy.proofs.Addresses.{address-word}
 
 module _ (p : List ℕ) (u : ℕ) where
   -- a row with an address
-  pub row-named : urlAddress p u ≤ 31 → within (eventSet (urlAddress p u)) (urlReaders p u) ≡ rowWellFormed p u
+  pub named-full : urlAddress p u < endpoints → addressWord p u ≡ noAddress → ⊥
+  named-full l e = absurd (omega (arith, address-word p u l))
+
+  pub row-named : urlAddress p u < endpoints → within (eventSet (urlAddress p u)) (urlReaders p u) ≡ rowWellFormed p u
   unfolding rowWellFormed emptyRow
   row-named l =
-      event-within (urlAddress p u) (urlReaders p u) (omega arith)
-      ∙ rw (ne-eqb (urlAddress p u) noAddress (λ e. omega arith), lt-ltb (urlAddress p u) endpoints (omega arith))
+      event-within (urlAddress p u) (urlReaders p u) l ∙ rw (ne-eqb (addressWord p u) noAddress (named-full l), lt-ltb (urlAddress p u) endpoints l)
 
   -- the test of an empty row
   pub row-empty : urlReaders p u < 2 ^ 32 → urlWriters p u < 2 ^ 32
-      → (eqb (urlAddress p u) 255 && within (urlReaders p u) 0) && within (urlWriters p u) 0 ≡ emptyRow p u
+      → (eqb (addressWord p u) 255 && within (urlReaders p u) 0) && within (urlWriters p u) 0 ≡ emptyRow p u
   unfolding emptyRow
   row-empty lr lw = rw (within-none (urlReaders p u) lr, within-none (urlWriters p u) lw, and-assoc)
 
   -- a row without an address
-  pub row-unnamed : 31 < urlAddress p u → emptyRow p u ≡ rowWellFormed p u
+  pub row-unnamed : endpoints ≤ urlAddress p u → emptyRow p u ≡ rowWellFormed p u
   unfolding rowWellFormed
   row-unnamed l = rw (le-ltb (urlAddress p u) endpoints l, or-false)
 
@@ -47,22 +49,22 @@ module _ (p : List ℕ) (u : ℕ) where
   unfolding isUrl
   url-beyond l = rw (le-ltb u urlRows l)
 
-  pub url-named : T (wellFormed p) → u < urlRows → leb (urlAddress p u) 31 ≡ isUrl p u
+  pub url-named : T (wellFormed p) → u < urlRows → not (leb endpoints (urlAddress p u)) ≡ isUrl p u
   unfolding isUrl emptyRow rowWellFormed
   url-named t l =
       rw (lt-ltb u urlRows l)
-      (same (leb (urlAddress p u) 31) (not (emptyRow p u))
-      (λ h. rw (ne-eqb (urlAddress p u) noAddress (λ e. absurd (omega (arith, leb→le (urlAddress p u) 31 h)))) tt)
-      (λ h. le→leb (urlAddress p u) 31 (addressed h)))
+      (same (not (leb endpoints (urlAddress p u))) (not (emptyRow p u))
+      (λ h. rw (ne-eqb (addressWord p u) noAddress (named-full (nleb→lt endpoints (urlAddress p u) h))) tt)
+      (λ h. not-T (leb endpoints (urlAddress p u)) (λ r. absurd (omega (arith, addressed h, leb→le endpoints (urlAddress p u) r)))))
     where
-      addressed : T (not (emptyRow p u)) → urlAddress p u ≤ 31
+      addressed : T (not (emptyRow p u)) → urlAddress p u < endpoints
       addressed h =
           ⊎-elim (λ e. absurd (T-not (emptyRow p u) h e))
-          (λ r. omega (arith, ltb→lt (urlAddress p u) endpoints (and-l (ltb (urlAddress p u) endpoints) (holds (urlReaders p u) (urlEvent p u)) r)))
+          (λ r. ltb→lt (urlAddress p u) endpoints (and-l (ltb (urlAddress p u) endpoints) (holds (urlReaders p u) (urlEvent p u)) r))
           (or-cases (emptyRow p u) (ltb (urlAddress p u) endpoints && holds (urlReaders p u) (urlEvent p u)) (row-formed t l))
 
-  pub url-given : u < urlRows → leb (urlAddress p u) 31 ≡ true → Url p u
-  url-given l t = record { row = l; address = omega (arith, leb-true (urlAddress p u) 31 t) }
+  pub url-given : u < urlRows → not (leb endpoints (urlAddress p u)) ≡ true → Url p u
+  url-given l t = record { row = l; address = nleb→lt endpoints (urlAddress p u) (subst T (sym t) tt) }
 
 -- a group of empty rows
 pub group-formed : (p : List ℕ) (n m : ℕ) → allBelow m (λ i. emptyRow p (n + i)) ≡ true → true ≡ allBelow m (λ i. rowWellFormed p (n + i))

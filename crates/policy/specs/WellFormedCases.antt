@@ -1,4 +1,4 @@
--- Worked cases of number 2: which policies are well formed. R is the policy of the worked cases of hosts that are always https.
+-- Worked cases of number 2: which policies are well formed. R and E are the policies of the worked cases of hosts that are always https and of entries.
 use mathlib.Core.Bool.{_&&_}
 use mathlib.Core.List.{List, [], _∷_, _++_}
 use lib.Dec.{T}
@@ -6,6 +6,7 @@ use lib.ListN.{take}
 use Rattle.machine.specs.Policy.{noPartner}
 use Rattle.machine.specs.Cases.{Words, url, cookieLabel, alwaysHttps, partner, allRight, noRecord, eachGives}
 use Rattle.machine.specs.HttpsCases.{policyR}
+use Rattle.machine.specs.EntryCases.{policyE}
 
 -- ---- listed hosts and partners
 
@@ -58,11 +59,45 @@ stillWellFormedR =
     ∷ (url 63 1 0x2 0 ∷ partner 63 2 ∷ [])
     ∷ []
 
+-- ---- entries
+
+-- E with these words changed
+abbrev pub notWellFormedE : List (List Words)
+notWellFormedE =
+    -- words that are no address, whatever the sets; 255, with a set
+    (url 63 64 0xffffffff 0xffffffff ∷ [])
+    ∷ (url 63 64 0 0 ∷ [])
+    ∷ (url 63 254 0xffffffff 0xffffffff ∷ [])
+    ∷ (url 63 0x1ff 0 0 ∷ [])
+    ∷ (url 63 255 0xffffffff 0 ∷ [])
+    ∷ (url 63 256 0xffffffff 0xffffffff ∷ [])
+    -- an entry without its event endpoint among its readers, by http and by https
+    ∷ (url 63 32 0xfffffffe 0xffffffff ∷ [])
+    ∷ (url 63 63 0xffff7fff 0xffffffff ∷ [])
+    -- an entry by http at a listed host without a partner; its partner is an entry at another host; an entry by https that has one
+    ∷ (partner 11 noPartner ∷ [])
+    ∷ (partner 11 2 ∷ [])
+    ∷ (partner 14 12 ∷ [])
+    -- a partner that is an entry by http; an entry by http that has one, at a host that is not listed
+    ∷ (partner 13 11 ∷ [])
+    ∷ (partner 8 2 ∷ [])
+    -- a partner that is an empty row: 255 is no address by https at host 15, which it would be but for three bits
+    ∷ (url 63 15 0xffffffff 0xffffffff ∷ alwaysHttps 0x8008 ∷ partner 63 62 ∷ [])
+    ∷ []
+
+abbrev pub stillWellFormedE : List (List Words)
+stillWellFormedE =
+    -- an entry whose partner is an entry, at host 15
+    (url 63 47 0xffffffff 0 ∷ url 62 63 0xffffffff 0 ∷ alwaysHttps 0x8008 ∷ partner 63 62 ∷ [])
+    ∷ []
+
 abbrev pub WellFormedCases : Type 0
 WellFormedCases = T (
     eachGives policyR 2 notWellFormedR
     && (eachGives policyR 10 stillWellFormedR
     && (allRight (take 544 policyR) (noRecord 2)
     && (allRight (take 608 policyR) (noRecord 2)
-    && allRight (policyR ++ (noPartner ∷ [])) (noRecord 2))))
+    && (allRight (policyR ++ (noPartner ∷ [])) (noRecord 2)
+    && (eachGives policyE 2 notWellFormedE
+    && eachGives policyE 10 stillWellFormedE)))))
     )

@@ -4,29 +4,31 @@ ghost use mathlib.Core.Bool.{true, _&&_};
 ghost use Prim.Native.Nat.{_+_, _*_, _^_, _<_, _≤_};
 ghost use lib.Dec.{eqb, ltb};
 ghost use lib.ListN.{length, getD};
-ghost use Rattle.labels.specs.Membership.{allBelow};
+ghost use Rattle.labels.specs.Membership.{endpoints, allBelow};
 ghost use Rattle.labels.specs.Addresses.{hosts};
-ghost use Rattle.machine.specs.Policy.{policyWords, urlRows, connections, httpsHosts};
+ghost use Rattle.machine.specs.Policy.{policyWords, urlRows, connections, urlAddress, httpsHosts};
 ghost use Rattle.machine.specs.Policy.{emptyRow, rowWellFormed, connectionWellFormed, isReplaced, isPartner, partnerWellFormed, wellFormed};
 ghost use Rattle.policy.specs.Given.{WellFormed};
 use super::words::CONNECTIONS;
 use super::words::NO_PARTNER;
 use super::words::URL_ROWS;
 use super::words::WORDS;
+use super::words::address_word;
+use super::words::by_http;
 use super::words::connection_readers;
 use super::words::https_hosts;
 use super::words::https_word;
+use super::words::lacks_address;
 use super::words::script_readers;
 use super::words::url_address;
 use super::words::url_partner;
 use super::words::url_readers;
 use super::words::url_writers;
 use labels::EndpointSet;
-use labels::LAST_ENDPOINT;
 use labels::addresses::HOSTS;
 use labels::addresses::event_set;
 
-// The address of an empty row, whose sets are empty.
+// What stands in the place of an address in an empty row, whose sets are empty.
 const NO_ADDRESS: u32 = 255;
 
 // A word of hosts is below this: it has no bit but theirs.
@@ -39,7 +41,7 @@ fn row_empty(policy: &[u32], url: usize) -> bool
     requires { ⌜ (length (now policy) ≡ policyWords) × (url < urlRows) ⌝ }
     ensures { λ r. ⌜ r ≡ emptyRow (now (policy .entry)) url ⌝ }
 {
-    (url_address(policy, url) == NO_ADDRESS)
+    (address_word(policy, url) == NO_ADDRESS)
         & url_readers(policy, url).within(EndpointSet::EMPTY)
         & url_writers(policy, url).within(EndpointSet::EMPTY)
 }
@@ -48,11 +50,10 @@ fn row_well_formed(policy: &[u32], url: usize) -> bool
     requires { ⌜ (length (now policy) ≡ policyWords) × (url < urlRows) ⌝ }
     ensures { λ r. ⌜ r ≡ rowWellFormed (now (policy .entry)) url ⌝ }
 {
-    let address = url_address(policy, url);
-    if LAST_ENDPOINT < address {
+    if lacks_address(policy, url) {
         return row_empty(policy, url);
     }
-    event_set(address).within(url_readers(policy, url))
+    event_set(url_address(policy, url)).within(url_readers(policy, url))
 }
 
 // Two words that lie side by side as one, which the compiler reads at once.
@@ -88,7 +89,7 @@ fn group_well_formed(policy: &[u32], first: usize) -> bool
     requires { ⌜ (length (now policy) ≡ policyWords) × (first + 8 ≤ urlRows) ⌝ }
     ensures { λ r. ⌜ r ≡ allBelow 8 (λ i. rowWellFormed (now (policy .entry)) (first + i)) ⌝ }
 {
-    if url_address(policy, first) == NO_ADDRESS {
+    if address_word(policy, first) == NO_ADDRESS {
         if group_empty(policy, first) {
             return true;
         }
@@ -142,19 +143,21 @@ fn is_replaced(policy: &[u32], url: usize) -> bool
     requires { ⌜ (length (now policy) ≡ policyWords) × (url < urlRows) ⌝ }
     ensures { λ r. ⌜ r ≡ isReplaced (now (policy .entry)) url ⌝ }
 {
-    let address = url_address(policy, url);
-    if HOSTS <= address {
+    if !by_http(policy, url) {
         return false;
     }
-    event_set(address).within(https_hosts(policy))
+    event_set(url_address(policy, url)).within(https_hosts(policy))
 }
 
 // Whether a number names a URL by https at the host of `url`.
 fn is_partner(policy: &[u32], url: usize, partner: usize) -> bool
-    requires { ⌜ (length (now policy) ≡ policyWords) × (url < urlRows) ⌝ }
+    requires { ⌜ (length (now policy) ≡ policyWords) × (url < urlRows) × (urlAddress (now policy) url < endpoints) ⌝ }
     ensures { λ r. ⌜ r ≡ isPartner (now (policy .entry)) url partner ⌝ }
 {
     if URL_ROWS <= partner {
+        return false;
+    }
+    if lacks_address(policy, partner) {
         return false;
     }
     url_address(policy, partner) == HOSTS + url_address(policy, url) % HOSTS

@@ -6,7 +6,7 @@ ghost use Prim.Native.Nat.{_<_};
 ghost use Rattle.labels.specs.Addresses.{hosts};
 ghost use Rattle.labels.specs.Sets.{holds};
 ghost use Rattle.machine.specs.Policy.{hostKeys, connections, cookieIndex, urlHost, urlMessage, urlEvent, isUrl, upgraded};
-ghost use Rattle.machine.specs.Policy.{fits, mayStore, mayCarry, mayRead, mayWrite, maySend};
+ghost use Rattle.machine.specs.Policy.{fits, mayStore, mayCarry, mayRead, mayWrite, mayReach, maySend};
 ghost use Rattle.machine.specs.Policy.{loadReaders, loadWriters, redirectReaders, redirectWriters};
 ghost use Rattle.machine.specs.Session.{keyMap};
 ghost use Rattle.policy.specs.Given.{WellFormed, Url};
@@ -15,7 +15,6 @@ pub mod check;
 pub mod words;
 
 use labels::EndpointSet;
-use labels::LAST_ENDPOINT;
 use labels::addresses::event_set;
 use labels::addresses::message_set;
 use words::HOST_KEYS;
@@ -26,6 +25,8 @@ use words::connection_readers;
 use words::connection_writers;
 use words::cookie_readers;
 use words::cookie_writers;
+use words::is_entry;
+use words::lacks_address;
 use words::script_readers;
 use words::url_address;
 use words::url_partner;
@@ -40,7 +41,7 @@ pub fn is_url(policy: &[u32], url: usize) -> bool
     if URL_ROWS <= url {
         return false;
     }
-    url_address(policy, url) <= LAST_ENDPOINT
+    !lacks_address(policy, url)
 }
 
 // What is asked for in place of a number: the partner of a URL that has one.
@@ -130,6 +131,14 @@ pub fn may_write(policy: &[u32], connection: usize, host: usize, key: usize) -> 
         & connection_writers(policy, connection).within(cookie_writers(policy, host, key))
 }
 
+// Whether writers may lead to a URL, by a redirect or by a script's request.
+fn may_reach(policy: &[u32], writers: EndpointSet, url: usize) -> bool
+    requires { ⌜ WellFormed (now policy) × Url (now policy) url ⌝ }
+    ensures { λ r. ⌜ r ≡ mayReach (now (policy .entry)) (writers .bits) url ⌝ }
+{
+    is_entry(policy, url) | writers.within(url_writers(policy, url))
+}
+
 // Steps 5 and 7: a script of a response on `connection` requests a URL on the connection `via`.
 pub fn may_send(policy: &[u32], connection: usize, url: usize, via: usize) -> bool
     requires { ⌜ WellFormed (now policy) × (connection < connections) × (via < connections) × Url (now policy) url ⌝ }
@@ -141,7 +150,7 @@ pub fn may_send(policy: &[u32], connection: usize, url: usize, via: usize) -> bo
         & connection_readers(policy, via).within(readers)
         & fits(policy, via, url)
         & writers.within(connection_writers(policy, via))
-        & writers.within(url_writers(policy, url))
+        & may_reach(policy, writers, url)
 }
 
 // Refusals 8 and 9 of a load.
@@ -173,5 +182,5 @@ pub fn redirect_writers(policy: &[u32], connection: usize, target: usize) -> boo
     ensures { λ r. ⌜ r ≡ redirectWriters (now (policy .entry)) connection target ⌝ }
 {
     let writers = connection_writers(policy, connection);
-    message_in(policy, target, writers) & writers.within(url_writers(policy, target))
+    message_in(policy, target, writers) & may_reach(policy, writers, target)
 }

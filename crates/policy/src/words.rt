@@ -1,10 +1,12 @@
 // The words of a policy by name. Each word that is a set becomes one here.
 ghost use mathlib.Core.Path.{_≡_};
 ghost use Prim.Native.Nat.{_<_};
+ghost use lib.Dec.{leb, ltb};
 ghost use lib.ListN.{length};
+ghost use Rattle.labels.specs.Membership.{endpoints};
 ghost use Rattle.labels.specs.Addresses.{hosts};
 ghost use Rattle.machine.specs.Policy.{policyWords, urlRows, hostKeys, connections, cookieIndex};
-ghost use Rattle.machine.specs.Policy.{urlAddress, urlReaders, urlWriters, cookieReaders, cookieWriters};
+ghost use Rattle.machine.specs.Policy.{addressWord, isEntry, urlAddress, urlReaders, urlWriters, cookieReaders, cookieWriters};
 ghost use Rattle.machine.specs.Policy.{connectionReaders, scriptReaders, connectionWriters, httpsHosts, urlPartner};
 use labels::EndpointSet;
 
@@ -27,14 +29,51 @@ pub const PARTNERS_AT: usize = HTTPS_HOSTS_AT + 1;
 
 pub const WORDS: usize = PARTNERS_AT + URL_ROWS;
 
+// By how much the word of an entry is above its address.
+pub const ENTRY: u32 = 32;
+
+// The words of addresses are below this.
+const ADDRESSES_END: u32 = 2 * ENTRY;
+
 // What stands in the place of a partner where a row has none.
 pub const NO_PARTNER: u32 = 255;
 
-pub fn url_address(policy: &[u32], url: usize) -> u32
+// The word of a URL's address: 32 more where it is an entry, and 255 in an empty row.
+pub fn address_word(policy: &[u32], url: usize) -> u32
     requires { ⌜ (length (now policy) ≡ policyWords) × (url < urlRows) ⌝ }
-    ensures { λ r. ⌜ r ≡ urlAddress (now (policy .entry)) url ⌝ }
+    ensures { λ r. ⌜ r ≡ addressWord (now (policy .entry)) url ⌝ }
 {
     policy[3 * url]
+}
+
+pub fn is_entry(policy: &[u32], url: usize) -> bool
+    requires { ⌜ (length (now policy) ≡ policyWords) × (url < urlRows) ⌝ }
+    ensures { λ r. ⌜ r ≡ isEntry (now (policy .entry)) url ⌝ }
+{
+    address_word(policy, url) / ENTRY == 1
+}
+
+// Whether a row has no address, neither an entry's nor another's.
+pub fn lacks_address(policy: &[u32], url: usize) -> bool
+    requires { ⌜ (length (now policy) ≡ policyWords) × (url < urlRows) ⌝ }
+    ensures { λ r. ⌜ r ≡ leb endpoints (urlAddress (now (policy .entry)) url) ⌝ }
+{
+    ADDRESSES_END <= address_word(policy, url)
+}
+
+// Whether a row has an address by http. The compiler makes one test of both parts.
+pub fn by_http(policy: &[u32], url: usize) -> bool
+    requires { ⌜ (length (now policy) ≡ policyWords) × (url < urlRows) ⌝ }
+    ensures { λ r. ⌜ r ≡ ltb (urlAddress (now (policy .entry)) url) hosts ⌝ }
+{
+    !lacks_address(policy, url) & (address_word(policy, url) / labels::addresses::HOSTS % 2 == 0)
+}
+
+pub fn url_address(policy: &[u32], url: usize) -> u32
+    requires { ⌜ (length (now policy) ≡ policyWords) × (url < urlRows) × (urlAddress (now policy) url < endpoints) ⌝ }
+    ensures { λ r. ⌜ r ≡ urlAddress (now (policy .entry)) url ⌝ }
+{
+    address_word(policy, url) % ENTRY
 }
 
 pub fn url_readers(policy: &[u32], url: usize) -> EndpointSet

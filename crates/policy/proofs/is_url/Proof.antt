@@ -1,4 +1,4 @@
--- `is_url` meets its contract: the address settles whether a row is empty.
+-- `is_url` meets its contract: whether there is an address settles whether a row is empty.
 use Rattle.prelude.proofs.Kit.{_<_, arith, false≢true, needs, now}
 use Rattle.machine.specs.Policy.{urlRows}
 use Rattle.policy.proofs.Rows.{url-beyond, url-named, url-given}
@@ -16,7 +16,7 @@ returns-2 c =
     let p = now (start .args .policy) in
     let u = start .args .url in
     let l : u < urlRows = omega arith in
-    rw (c .url-address .ensures) (url-named p u (start .pre .formed) l, url-given p u l)
+    rw (c .lacks-address .ensures) (url-named p u (start .pre .formed) l, url-given p u l)
 
 pub is-url-spec : {M : Type 1} → statement M
 is-url-spec = tie.close (tie.spec returns (λ c κs. search needs) returns-2)

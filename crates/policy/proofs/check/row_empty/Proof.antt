@@ -8,7 +8,7 @@ returns : tie.Need-returns
 returns c =
     let a = c .before .before .before .before .before .before .args in
     let word = c .before .before .before .before .before .shared-slice-known .given in
-    rw (c .within2 .ensures, c .before .before .within .ensures, c .before .url-writers .ensures, c .before .before .before .url-readers .ensures, c .before .before .before .before .url-address .ensures)
+    rw (c .within2 .ensures, c .before .before .within .ensures, c .before .url-writers .ensures, c .before .before .before .url-readers .ensures, c .before .before .before .before .address-word .ensures)
     (row-empty (now (a .policy)) (a .url) (word (3 * a .url + 1) .fits) (word (3 * a .url + 2) .fits))
 
 pub row-empty-spec : {M : Type 1} → statement M
