@@ -35,14 +35,14 @@ extern "C" {
 
 /* The length of each buffer. An output may be longer; any other difference is refused. */
 enum {
-    /* words 0 to 191: 64 URLs of address (0 to 31), readers, writers; no URL: 255, 0, 0, all three
+    /* words 0 to 191: 64 URLs of address (0 to 31; MONITOR_ENTRY more for an entry), readers, writers; no URL: 255, 0, 0, all three
      * words 192 to 447: readers, writers of the cookie of host h (0 to 15) and key k (0 to 7), at 192 + 2 * (8 * h + k)
      * words 448 to 543: 32 connections of readers, script readers, writers
      * word 544: the hosts that are always https, bit h for host h, bits 16 to 31 zero (see Hosts that are always https below)
      * words 545 to 608: the partner of each of the 64 URLs, a URL by https; 255 where it has none
-     * Well formed: each URL has its event endpoint among its readers; each connection's script readers are within its readers; each URL by
-     * http at a host that is always https has a partner at the same host, and no other row has one, whether it is a URL or not. Nothing else
-     * is asked, and any set may be empty. A policy of zeros is not well formed: it has 64 URLs without readers. */
+     * Well formed: each URL has its event endpoint among its readers, an entry too; each connection's script readers are within its readers;
+     * each URL by http at a host that is always https has a partner at the same host, and no other row has one, whether it is a URL or not.
+     * Nothing else is asked, and any set may be empty. A policy of zeros is not well formed: it has 64 URLs without readers. */
     MONITOR_POLICY_WORDS = 609,
     /* 16 scripts of 32 steps of 4 bytes: op, a, b, c */
     MONITOR_SCRIPT_BYTES = 2048,
@@ -57,6 +57,15 @@ enum {
     MONITOR_OUT_BYTES = 1184
 };
 
+/* A URL whose first word in the policy is so much more than its address is an entry: a front page that anyone may link to. Its host and its endpoints
+ * are those of the address. A redirect to an entry, or a script's request (steps 5 and 7), may come from writers that the entry does not have: that
+ * alone is not asked of it. Its readers and its event endpoint decide as of any URL, its message endpoint must be among the writers of the connection
+ * on which it is asked for, and the script's writers within these. A load asks for no writers of any URL. Where the URL that is named has a partner
+ * (see Hosts that are always https below), the partner decides whether it is an entry. */
+enum {
+    MONITOR_ENTRY = 32
+};
+
 /* The longest record that is not malformed, and the longest request. */
 enum {
     MONITOR_LONGEST_RECORD = 40,
@@ -68,7 +77,7 @@ enum monitor_number {
     MONITOR_ACCEPTED = 0,
     /* the output has fewer than MONITOR_OUT_BYTES bytes, however few this record needs */
     MONITOR_OUTPUT_SHORT = 1,
-    /* the policy does not have its length, or is not well formed: a URL with an address above 31 or without its event endpoint (http at
+    /* the policy does not have its length, or is not well formed: a URL with an address word above 63 or without its event endpoint (http at
      * its host) among its readers; a connection with script readers that are not among its readers; a bit above 15 in the word of hosts;
      * a URL by http at a listed host whose partner is not a URL by https at that host; or a partner of any other row but 255 */
     MONITOR_POLICY_BAD = 2,
@@ -94,7 +103,7 @@ enum monitor_number {
      * target does not have, or lacks the target's event endpoint. URL and target are those that are asked for, here and in 9 */
     MONITOR_READERS_FORBID = 8,
     /* writers forbid it: the message endpoint (the address itself) of a load's URL or a redirect's target is not among the connection's
-     * writers; or a redirect's connection has writers that the target does not have */
+     * writers; or a redirect's connection has writers that the target does not have, and the target is no entry */
     MONITOR_WRITERS_FORBID = 9
 };
 
@@ -149,8 +158,8 @@ struct monitor_answer {
  *     3   register a = cookie b of the page's host, if S is within its readers and its writers are within J
  *     4   cookie a of the page's host = register b, if its readers are within S and J is within its writers; else passed over
  *     5   request URL a on connection b with handler c, if a's event endpoint is in S, b's readers are within S, b fits a, and J is within b's
- *         writers and within a's writers. It opens b as a script's request with the page as its origin, whatever was pending there, and sends a
- *         script request. The connection of the response is free by then, and may be opened too.
+ *         writers and, where a is no entry, within a's writers. It opens b as a script's request with the page as its origin, whatever was pending
+ *         there, and sends a script request. The connection of the response is free by then, and may be opened too.
  *     6   if register a is 0, skip the b steps that follow
  *     7   request a picture of URL a on connection b, if step 5 would be allowed. It opens b as a picture, whatever was pending there, and sends a
  *         picture request; c is not used.

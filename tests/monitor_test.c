@@ -1,6 +1,6 @@
 /* Links libmonitor.a: document 01's small post case by case, a script that is stopped on one connection and goes on on another, pictures, hosts that
- * are always https, the endpoints of every address, every wrong length of every buffer, null pointers, and random records. Every call is checked for
- * what it must leave alone. */
+ * are always https, entries, the endpoints of every address and of its entry, every wrong length of every buffer, null pointers, and random records.
+ * Every call is checked for what it must leave alone. */
 #include <inttypes.h>
 #include <stdbool.h>
 #include <stdio.h>
@@ -387,21 +387,135 @@ static void always_https(void)
     pairs();
 }
 
-/* ---- the endpoints of an address: each question that is about one, asked of a set that has one endpoint */
-
 enum { READERS, SCRIPT_READERS, WRITERS };
-
-/* A URL with its address and what its endpoints should be; another URL, that a redirect or a script comes from; a connection that awaits a
- * document, and a free one. */
-struct asked {
-    uint32_t address;
-    uint8_t message, event, url, from, awaiting, free;
-};
 
 static uint32_t *connection_sets(uint8_t connection)
 {
     return lent.policy + 448 + 3u * connection;
 }
+
+/* ---- entries */
+
+/* At host 0 of policy P, by https, URL 4 is a front page that anyone may link to and URL 5 the page behind it. URL 1 is a search page, which everyone
+ * has shaped, on connection 1. */
+static void front_page(void)
+{
+    small_post();
+    set_words(lent.policy, 3 * 4, 3, (const uint32_t[]){MONITOR_ENTRY + 16, UINT32_MAX, 0x00010000});
+    set_words(lent.policy, 3 * 5, 3, (const uint32_t[]){16, UINT32_MAX, 0x00010000});
+    gives("the search page", BYTES(0x03, 1, 1), ACCEPTED(3, 0), (const uint8_t[]){0x03, 1, 1});
+}
+
+static void search_page(void)
+{
+    static const uint8_t requests[] = {5, 4, 1, 9, 7, 4, 1, 0, 5, 5, 1, 9}, picture_of_5[] = {7, 5, 1, 0};
+    front_page();
+    gives("the page behind the front page", BYTES(0x23, 1, 1, 5), REFUSED(MONITOR_WRITERS_FORBID), NOTHING);
+    gives("the front page", BYTES(0x23, 1, 1, 4), ACCEPTED(3, 0), (const uint8_t[]){0x03, 4, 1});
+    gives("the page behind it, from there", BYTES(0x23, 4, 1, 5), REFUSED(MONITOR_WRITERS_FORBID), NOTHING);
+    gives("the page behind it, loaded", BYTES(0x03, 5, 1), ACCEPTED(3, 0), (const uint8_t[]){0x03, 5, 1});
+    front_page();
+    memcpy(lent.scripts, requests, sizeof requests);
+    memcpy(lent.scripts + SCRIPT, picture_of_5, sizeof picture_of_5);
+    gives("a script that gets to the front page", BYTES(0x0b, 1, 1, 0), ACCEPTED(7, 3), (const uint8_t[]){0x0b, 4, 1, 9, 0x43, 4, 1});
+    gives("the search page again", BYTES(0x03, 1, 1), ACCEPTED(3, 0), (const uint8_t[]){0x03, 1, 1});
+    gives("a script that does not get further", BYTES(0x0b, 1, 1, 1), ACCEPTED(0, 1), NOTHING);
+}
+
+/* What is asked for is URL 11, https at host 5, from the page of URL 10, http at host 2, that connection 8 awaits. */
+enum { PAGE = 10, LINKED = 11, OWN = 8, OTHER = 9 };
+
+static void link_post(bool is_entry, uint32_t readers, uint32_t writers)
+{
+    small_post();
+    set_words(lent.policy, 3 * PAGE, 3, (const uint32_t[]){2, UINT32_MAX, UINT32_MAX});
+    set_words(lent.policy, 3 * LINKED, 3, (const uint32_t[]){is_entry ? MONITOR_ENTRY + 21 : 21, readers, writers});
+    lent.state[144 + OWN] = 1u << 24 | PAGE;
+}
+
+/* One endpoint, unless the condition of this number fails. */
+static uint32_t unless(uint32_t fails, unsigned condition, unsigned endpoint)
+{
+    return (fails >> condition & 1u) != 0 ? 0 : 1u << endpoint;
+}
+
+/* The conditions of a redirect, each alone and every few of them together: event endpoint, readers, message endpoint, writers. */
+static void redirect_conditions(bool is_entry)
+{
+    for (uint32_t fails = 0; fails < 16; fails++) {
+        const uint32_t asked = is_entry ? fails & 7u : fails;
+        link_post(is_entry, 1u << 5 | unless(fails, 1, 2), 1u << 21 | unless(fails, 3, 2));
+        set_words(connection_sets(OWN), 0, 3, (const uint32_t[]){1u << 2 | unless(fails, 0, 5), 0, 1u << 2 | unless(fails, 2, 21)});
+        gives("the conditions of a redirect", BYTES(0x23, PAGE, OWN, LINKED),
+              asked == 0          ? ACCEPTED(3, 0)
+              : (asked & 3u) != 0 ? REFUSED(MONITOR_READERS_FORBID)
+                                  : REFUSED(MONITOR_WRITERS_FORBID),
+              (const uint8_t[]){0x03, LINKED, OWN});
+    }
+}
+
+/* The conditions of steps 5 and 7: the event endpoint in S, the other connection's readers within S and within the URL's, the message endpoint in its
+ * writers, J within these and within the URL's writers. */
+static void step_conditions(bool is_entry, uint8_t operation)
+{
+    const uint8_t step[] = {operation, LINKED, OTHER, 6};
+    const uint8_t request[] = {operation == 5 ? 0x0b : 0x43, LINKED, OTHER, 6};
+    for (uint32_t fails = 0; fails < 64; fails++) {
+        const uint32_t script_readers = 1u << 2 | unless(fails, 0, 5) | unless(fails, 1, 7);
+        const uint32_t asked = is_entry ? fails & 31u : fails;
+        link_post(is_entry, 1u << 2 | 1u << 5 | unless(fails, 2, 7), 1u << 2 | unless(fails, 5, 3));
+        set_words(connection_sets(OWN), 0, 3, (const uint32_t[]){script_readers, script_readers, 1u << 2 | 1u << 3});
+        set_words(connection_sets(OTHER), 0, 3,
+                  (const uint32_t[]){1u << 2 | 1u << 7, 0, 1u << 2 | unless(fails, 3, 21) | unless(fails, 4, 3)});
+        memcpy(lent.scripts, step, sizeof step);
+        gives("the conditions of a step", BYTES(0x0b, PAGE, OWN, 0), asked != 0 ? ACCEPTED(0, 1) : ACCEPTED(operation == 5 ? 4 : 3, 2), request);
+    }
+}
+
+/* With host 0 of policy P listed, URL 0 is asked for in place of URL 3. Neither has the writers of connection 3, which awaits URL 0. */
+static void linked_pair(uint32_t named, uint32_t partner)
+{
+    static const uint8_t requests_3[] = {5, 3, 3, 9}, picture_of_3[] = {7, 3, 3, 0};
+    const bool is_entry = partner != 0;
+    small_post();
+    list_host_0();
+    lent.policy[3 * 3] += named;
+    lent.policy[0] += partner;
+    lent.policy[3 * 3 + 2] = 0;
+    gives("a load of a pair", BYTES(0x03, 3, 3), ACCEPTED(3, 0), (const uint8_t[]){0x03, 0, 3});
+    gives("a redirect to a pair", BYTES(0x23, 0, 3, 3), is_entry ? ACCEPTED(3, 0) : REFUSED(MONITOR_WRITERS_FORBID), (const uint8_t[]){0x03, 0, 3});
+    memcpy(lent.scripts, requests_3, sizeof requests_3);
+    gives("a script that requests a pair", BYTES(0x0b, 0, 3, 0), is_entry ? ACCEPTED(4, 2) : ACCEPTED(0, 1), (const uint8_t[]){0x0b, 0, 3, 9});
+    lent.state[144 + 3] = 1u << 24;
+    memcpy(lent.scripts, picture_of_3, sizeof picture_of_3);
+    gives("a script that requests a picture of a pair", BYTES(0x0b, 0, 3, 0), is_entry ? ACCEPTED(3, 2) : ACCEPTED(0, 1),
+          (const uint8_t[]){0x43, 0, 3});
+    lent.policy[PARTNERS + 3] = NO_PARTNER;
+    gives("a pair without its partner", BYTES(0x03, 0, 0), REFUSED(MONITOR_POLICY_BAD), NOTHING);
+    lent.policy[HTTPS_HOSTS] = 0;
+    gives("a row alone", BYTES(0x03, 3, 3), ACCEPTED(3, 0), (const uint8_t[]){0x03, 3, 3});
+}
+
+static void entries(void)
+{
+    search_page();
+    for (int is_entry = 0; is_entry < 2; is_entry++) {
+        redirect_conditions(is_entry != 0);
+        step_conditions(is_entry != 0, 5);
+        step_conditions(is_entry != 0, 7);
+        linked_pair(0, is_entry != 0 ? MONITOR_ENTRY : 0);
+        linked_pair(MONITOR_ENTRY, is_entry != 0 ? MONITOR_ENTRY : 0);
+    }
+}
+
+/* ---- the endpoints of an address: each question that is about one, asked of a set that has one endpoint */
+
+/* A URL with its address word and what its endpoints should be; another URL, that a redirect or a script comes from; a connection that awaits a
+ * document, and a free one. */
+struct asked {
+    uint32_t word;
+    uint8_t message, event, url, from, awaiting, free;
+};
 
 /* Everyone reads and writes the two URLs; no one reads the two connections, and everyone writes them. */
 static void open_post(const struct asked *a, uint32_t from_address, uint8_t awaited)
@@ -410,7 +524,7 @@ static void open_post(const struct asked *a, uint32_t from_address, uint8_t awai
     for (size_t row = 0; row < 4; row++) {
         set_words(lent.policy, 3 * row, 3, (const uint32_t[]){255, 0, 0});
     }
-    set_words(lent.policy, 3u * a->url, 3, (const uint32_t[]){a->address, UINT32_MAX, UINT32_MAX});
+    set_words(lent.policy, 3u * a->url, 3, (const uint32_t[]){a->word, UINT32_MAX, UINT32_MAX});
     set_words(lent.policy, 3u * a->from, 3, (const uint32_t[]){from_address, UINT32_MAX, UINT32_MAX});
     set_words(connection_sets(a->awaiting), 0, 3, (const uint32_t[]){0, 0, UINT32_MAX});
     set_words(connection_sets(a->free), 0, 3, (const uint32_t[]){0, 0, UINT32_MAX});
@@ -458,23 +572,45 @@ static void ask_redirect(const struct asked *a, uint8_t endpoint)
           endpoint == a->message ? ACCEPTED(3, 0) : REFUSED(MONITOR_WRITERS_FORBID), request);
 }
 
-/* A script that requests the URL, by step 5 or as a picture by step 7, wants the event endpoint among its own readers, and the message endpoint among
- * the free connection's writers. */
-static void ask_script(const struct asked *a, uint8_t endpoint, uint8_t operation)
+/* The response of the page that is awaited runs a script, which requests the URL on the free connection: by step 5, or as a picture by step 7. */
+static void script_gives(const char *name, const struct asked *a, uint8_t operation, bool allowed)
 {
     const uint8_t step[] = {operation, a->url, a->free, 0};
     const uint8_t request[] = {operation == 5 ? 0x0b : 0x43, a->url, a->free, 0};
     const uint32_t bytes = operation == 5 ? 4 : 3;
+    memcpy(lent.scripts, step, sizeof step);
+    gives(name, BYTES(0x0b, a->from, a->awaiting, 0), allowed ? ACCEPTED(bytes, 2) : ACCEPTED(0, 1), request);
+}
+
+/* A script wants the event endpoint among its own readers, and the message endpoint among the free connection's writers. */
+static void ask_script(const struct asked *a, uint8_t endpoint, uint8_t operation)
+{
     uint32_t *const sets = connection_sets(a->awaiting);
     open_post(a, 0, a->from);
-    memcpy(lent.scripts, step, sizeof step);
     sets[READERS] = sets[SCRIPT_READERS] = 1u << endpoint;
-    gives("a script's event endpoint", BYTES(0x0b, a->from, a->awaiting, 0), endpoint == a->event ? ACCEPTED(bytes, 2) : ACCEPTED(0, 1), request);
+    script_gives("a script's event endpoint", a, operation, endpoint == a->event);
     open_post(a, endpoint, a->from);
-    memcpy(lent.scripts, step, sizeof step);
     sets[READERS] = sets[SCRIPT_READERS] = 1u << a->event;
     sets[WRITERS] = connection_sets(a->free)[WRITERS] = 1u << endpoint;
-    gives("a script's message endpoint", BYTES(0x0b, a->from, a->awaiting, 0), endpoint == a->message ? ACCEPTED(bytes, 2) : ACCEPTED(0, 1), request);
+    script_gives("a script's message endpoint", a, operation, endpoint == a->message);
+}
+
+/* Nobody writes the URL: a load asks for that in no case, and a redirect and a script where the URL is no entry. */
+static void ask_writers(const struct asked *a)
+{
+    const bool is_entry = a->word >= MONITOR_ENTRY;
+    const uint8_t request[] = {0x03, a->url, a->awaiting};
+    uint32_t *const sets = connection_sets(a->awaiting);
+    open_post(a, 0, a->from);
+    lent.policy[3u * a->url + 2] = 0;
+    load_gives("a load of a URL that nobody writes", a, true, MONITOR_ACCEPTED);
+    sets[READERS] = sets[SCRIPT_READERS] = 1u << a->event;
+    gives("a redirect to a URL that nobody writes", BYTES(0x23, a->from, a->awaiting, a->url),
+          is_entry ? ACCEPTED(3, 0) : REFUSED(MONITOR_WRITERS_FORBID), request);
+    for (uint8_t operation = 5; operation <= 7; operation += 2) {
+        lent.state[144 + a->awaiting] = 1u << 24 | a->from;
+        script_gives("a script that requests a URL that nobody writes", a, operation, is_entry);
+    }
 }
 
 /* A request carries a cookie of the URL's host whose readers have the message endpoint. */
@@ -490,14 +626,15 @@ static void ask_cookie(const struct asked *a, uint8_t endpoint)
 }
 
 /* Rows and connections at each place of a group: the compiler makes code for each. */
-static void ask_all(uint8_t address, uint8_t message, uint8_t event)
+static void ask_all(uint32_t word, uint8_t message, uint8_t event)
 {
-    struct asked a = {.address = address, .message = message, .event = event};
+    struct asked a = {.word = word, .message = message, .event = event};
     for (uint8_t place = 0; place < 8; place++) {
-        a.url = (uint8_t)(8 * ((address + place) % 8) + place);
+        a.url = (uint8_t)(8 * ((word + place) % 8) + place);
         a.from = 63 - a.url;
         a.awaiting = place;
         a.free = 31 - place;
+        ask_writers(&a);
         for (uint8_t endpoint = 0; endpoint < 32; endpoint++) {
             ask_row(&a, endpoint);
             ask_fit(&a, endpoint);
@@ -515,19 +652,35 @@ static void endpoints(void)
         const uint8_t http = host, https = 16 + host;
         ask_all(http, http, http);
         ask_all(https, https, http);
+        ask_all(MONITOR_ENTRY + http, http, http);
+        ask_all(MONITOR_ENTRY + https, https, http);
     }
 }
 
-/* A row whose address is above 31 is refused, though everyone reads it; one that a narrower type would turn into an address, too. */
-static void no_addresses(void)
+/* Loads a URL under a policy that has another one of this address word, which everyone reads. */
+static void word_gives(uint32_t word)
 {
-    for (uint32_t high = 32; high != 0; high <<= 1) {
-        for (uint32_t low = 0; low < 32; low++) {
-            const struct asked a = {.address = high + low, .url = 1, .from = 0, .awaiting = 0, .free = 1};
-            open_post(&a, 0, 0);
-            gives("an address above 31", BYTES(0x03, 0, 1), REFUSED(MONITOR_POLICY_BAD), NOTHING);
+    const struct asked a = {.word = word, .url = 1, .from = 0, .awaiting = 0, .free = 1};
+    open_post(&a, 0, 0);
+    gives("an address word", BYTES(0x03, 0, 1), word < 2 * MONITOR_ENTRY ? ACCEPTED(3, 0) : REFUSED(MONITOR_POLICY_BAD),
+          (const uint8_t[]){0x03, 0, 1});
+}
+
+/* Every word up to 1,023; and above them each that a narrower type would turn into an address or an entry. */
+static void address_words(void)
+{
+    for (uint32_t word = 0; word < 1024; word++) {
+        word_gives(word);
+    }
+    for (uint32_t high = 1024; high != 0; high <<= 1) {
+        for (uint32_t low = 0; low < 2 * MONITOR_ENTRY; low++) {
+            word_gives(high + low);
         }
     }
+    small_post();
+    gives("empty rows", BYTES(0x03, 0, 0), ACCEPTED(3, 0), (const uint8_t[]){0x03, 0, 0});
+    lent.policy[3 * 4] = 254;
+    gives("a row that is empty but for its word", BYTES(0x03, 0, 0), REFUSED(MONITOR_POLICY_BAD), NOTHING);
 }
 
 /* ---- wrong lengths */
@@ -605,7 +758,8 @@ static void null_pointers(void)
 
 /* ---- random records */
 
-/* Sessions of policy P with random scripts, every second one with both hosts listed. Records are mostly near good ones, so that many are accepted. */
+/* Sessions of policy P with random scripts, every second one with both hosts listed, and some with entries. Records are mostly near good ones, so
+ * that many are accepted. */
 static void random_records(void)
 {
     static const uint8_t maps[] = {0x03, 0x03, 0x0b, 0x0f, 0x13, 0x17, 0x23, 0x27, 0x43, 0x47};
@@ -619,6 +773,9 @@ static void random_records(void)
                 list_host_0();
                 lent.policy[HTTPS_HOSTS] |= 2;
                 lent.policy[PARTNERS + 1] = 2;
+            }
+            for (size_t url = 0; url < 4; url++) {
+                lent.policy[3 * url] += (k / 50 >> url & 1u) * MONITOR_ENTRY;
             }
             for (size_t i = 0; i < MONITOR_SCRIPT_BYTES; i++) {
                 lent.scripts[i] = (uint8_t)(next_random() >> 8 & (i % 4 == 0 ? 7u : 3u));
@@ -651,13 +808,14 @@ int main(void)
     scripts();
     pictures();
     always_https();
+    entries();
     endpoints();
-    no_addresses();
+    address_words();
     wrong_lengths();
     null_pointers();
     random_records();
-    printf("monitor: cases a to j, the script in two connections, pictures, https hosts, the endpoints of every address, every wrong length, null "
-           "pointers agree, and random records touch nothing else: %lu calls\n",
+    printf("monitor: cases a to j, the script in two connections, pictures, https hosts, entries, the endpoints of every address and of its entry, "
+           "every wrong length, null pointers agree, and random records touch nothing else: %lu calls\n",
            calls);
     return 0;
 }

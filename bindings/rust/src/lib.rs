@@ -43,7 +43,7 @@
 //!
 //! | Buffer | Length | What |
 //! |---|---|---|
-//! | policy | [`POLICY_WORDS`] | words 0 to 191: 64 URLs of address, readers, writers ([`NO_URL`] where there is none); 192 to 447: readers and writers of the cookie of host h and key k, at 192 + 2 (8 h + k); 448 to 543: 32 connections of readers, script readers, writers; 544: the hosts that are always https, bit h for host h; 545 to 608: the partner of each URL, by https at its host, for URLs by http at such a host, and [`NO_PARTNER`] for all others |
+//! | policy | [`POLICY_WORDS`] | words 0 to 191: 64 URLs of address ([`ENTRY`] more for an entry), readers, writers ([`NO_URL`] where there is none); 192 to 447: readers and writers of the cookie of host h and key k, at 192 + 2 (8 h + k); 448 to 543: 32 connections of readers, script readers, writers; 544: the hosts that are always https, bit h for host h; 545 to 608: the partner of each URL, by https at its host, for URLs by http at such a host, and [`NO_PARTNER`] for all others |
 //! | script table | [`SCRIPT_BYTES`] | 16 scripts of 32 steps of 4 bytes: op, a, b, c |
 //! | state | [`STATE_WORDS`] | words 0 to 127: the values of cookies, at 8 h + k; 128 to 143: for each host, the keys present as bits 0 to 7; 144 to 175: connections, 0 where free, else kind << 24 \| origin << 16 \| handler << 8 \| URL, where kind is 1 for a document, 2 for a script's request and 3 for a picture (origin and handler 0 but for a script's request) |
 //! | output | [`OUT_BYTES`] or more | requests, one right after another |
@@ -81,6 +81,21 @@ pub const LONGEST_REQUEST: usize = 37;
 pub const NO_URL: [u32; 3] = [255, 0, 0];
 /// The partner, in a policy, of a URL that has none, and of a row that is not in use.
 pub const NO_PARTNER: u32 = 255;
+/// What is added to the address of a URL, in a policy, to make it an entry: a front page that anyone may link to.
+///
+/// A redirect to an entry, or a script's request, may come from writers that the entry does not have: that alone is not asked of it. Its readers
+/// and its event endpoint decide as of any URL, its address must be among the writers of the connection on which it is asked for, and the script's
+/// writers within these. A load asks for no writers of any URL. Where the URL that is named has a partner, the partner decides whether it is an
+/// entry. An entry by http at a host that is always https needs a partner as any URL does, which may be an entry or not.
+///
+/// ```
+/// use zolherima::ENTRY;
+///
+/// // Address, readers and writers: https at host 0, of which everyone may learn, which it alone writes, and to which anyone may link.
+/// let front_page = [ENTRY + 16, u32::MAX, 0x0001_0000];
+/// # assert_eq!(front_page[0], 48);
+/// ```
+pub const ENTRY: u32 = 32;
 
 /// What an accepted record did.
 #[derive(Clone, Copy, Debug, PartialEq, Eq, Hash)]
@@ -129,9 +144,9 @@ macro_rules! refusals {
 refusals! {
     /// The output has fewer than [`OUT_BYTES`] bytes, however few this record needs.
     OutputShort = 1, "the output is too short";
-    /// The policy does not have [`POLICY_WORDS`] words, or is not well formed: a URL with an address above 31 or without its event
-    /// endpoint (http at its host) among its readers; a connection with script readers that are not among its readers; a host above 15
-    /// listed as always https; or a partner that is missing, wrong, or not called for.
+    /// The policy does not have [`POLICY_WORDS`] words, or is not well formed: a URL whose first word is neither an address nor [`ENTRY`] more
+    /// than one, or without its event endpoint (http at its host) among its readers; a connection with script readers that are not among its
+    /// readers; a host above 15 listed as always https; or a partner that is missing, wrong, or not called for.
     PolicyBad = 2, "the policy has the wrong length or is not well formed";
     /// The script table does not have [`SCRIPT_BYTES`] bytes.
     ScriptsBad = 3, "the script table has the wrong length";
@@ -155,7 +170,7 @@ refusals! {
     /// target does not have, or lacks the target's event endpoint.
     ReadersForbid = 8, "the readers of the connection and the URL forbid it";
     /// Writers forbid it: the address of a load's URL or of a redirect's target is not among the connection's writers; or a redirect's
-    /// connection has writers that the target does not have.
+    /// connection has writers that the target does not have, and the target is no entry.
     WritersForbid = 9, "the writers of the connection and the URL forbid it";
 }
 

@@ -3,7 +3,8 @@
 use std::error::Error;
 
 use zolherima::{
-    feed, Accepted, Refusal, NO_PARTNER, NO_URL, OUT_BYTES, POLICY_WORDS, SCRIPT_BYTES, STATE_WORDS,
+    feed, Accepted, Refusal, ENTRY, NO_PARTNER, NO_URL, OUT_BYTES, POLICY_WORDS, SCRIPT_BYTES,
+    STATE_WORDS,
 };
 
 const ALL: u32 = u32::MAX;
@@ -98,6 +99,57 @@ fn a_host_that_is_always_https_is_called_by_https() {
     assert_eq!(response, Ok(Accepted { bytes: 0, steps: 1 }));
     post.policy[HTTPS_HOSTS] = 0x1_0001;
     assert_eq!(post.feed(&load), Err(Refusal::PolicyBad));
+}
+
+/// At host 0, by https, URL 4 is a front page and URL 5 the page behind it; URL 1 is a search page, which everyone has shaped.
+fn front_page() -> Post {
+    let mut post = Post::new();
+    post.policy[12..18].copy_from_slice(&[ENTRY + 16, ALL, 0x10000, 16, ALL, 0x10000]);
+    assert_eq!(post.sends(&[0x03, 1, 1]), [0x03, 1, 1]);
+    post
+}
+
+#[test]
+fn anyone_may_link_to_an_entry() {
+    let mut post = front_page();
+    assert_eq!(post.feed(&[0x23, 1, 1, 5]), Err(Refusal::WritersForbid));
+    assert_eq!(post.sends(&[0x23, 1, 1, 4]), [0x03, 4, 1]);
+    assert_eq!(post.feed(&[0x23, 4, 1, 5]), Err(Refusal::WritersForbid));
+    for (op, request) in [(5, &[0x0b, 4, 1, 9][..]), (7, &[0x43, 4, 1])] {
+        let mut post = front_page();
+        post.scripts[..8].copy_from_slice(&[op, 4, 1, 9, op, 5, 1, 9]);
+        assert_eq!(post.sends(&[0x0b, 1, 1, 0]), request);
+    }
+}
+
+/// Readers, the message endpoint, and of a script the writers of the connection.
+#[test]
+fn an_entry_is_excused_from_nothing_else() {
+    let mut post = front_page();
+    post.policy[13] = 0x10001;
+    assert_eq!(post.feed(&[0x23, 1, 1, 4]), Err(Refusal::ReadersForbid));
+    let mut post = front_page();
+    post.policy[453] = ALL ^ 0x10000;
+    assert_eq!(post.feed(&[0x23, 1, 1, 4]), Err(Refusal::WritersForbid));
+    for op in [5, 7] {
+        let mut post = front_page();
+        post.scripts[..4].copy_from_slice(&[op, 4, 0, 9]);
+        let response = post.feed(&[0x0b, 1, 1, 0]);
+        assert_eq!(response, Ok(Accepted { bytes: 0, steps: 1 }));
+    }
+}
+
+#[test]
+fn an_address_word_is_an_address_or_an_entrys() {
+    let mut post = Post::new();
+    for word in 0..600 {
+        post.policy[12..15].copy_from_slice(&[word, ALL, ALL]);
+        let unknown = match word < 2 * ENTRY {
+            true => Refusal::KindUnknown,
+            false => Refusal::PolicyBad,
+        };
+        assert_eq!(post.feed(&[]), Err(unknown), "{word}");
+    }
 }
 
 #[test]

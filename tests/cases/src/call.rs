@@ -17,7 +17,7 @@ pub struct Call {
 }
 
 impl Call {
-    /// A call on a state of its own; about one in six has something damaged.
+    /// A call on a state of its own; about one in five has something damaged.
     pub fn make_single(&mut self, setting: &Setting, random: &Random) {
         self.policy.clone_from(&setting.policy);
         self.scripts.clone_from(&setting.scripts);
@@ -28,7 +28,7 @@ impl Call {
         }
         record::make_record(setting, &self.state, &mut self.record, random);
         self.make_out(random);
-        if random.one_in(6) {
+        if random.one_in(5) {
             self.damage(setting, random);
         }
     }
@@ -78,12 +78,12 @@ impl Call {
         let policy = self.policy.len() == POLICY_WORDS;
         let scripts = self.scripts.len() == SCRIPTS_BYTES;
         let state = self.state.len() == STATE_WORDS;
-        match random.below(10) {
+        match random.below(11) {
             0 => damage::damage_out(&mut self.out, random),
-            1..=3 if policy => damage::damage_policy(&mut self.policy, random),
-            4 if scripts => damage::damage_scripts(&mut self.scripts, random),
-            5 if policy && state => damage::estrange(&mut self.policy, &self.state, random),
-            6..=9 if state => damage::damage_state(setting, &mut self.state, random),
+            1..=4 if policy => damage::damage_policy(&mut self.policy, random),
+            5 if scripts => damage::damage_scripts(&mut self.scripts, random),
+            6 if policy && state => damage::estrange(&mut self.policy, &self.state, random),
+            7..=10 if state => damage::damage_state(setting, &mut self.state, random),
             _ => {}
         }
     }

@@ -1,7 +1,7 @@
 //! Damage to what the monitor is lent beside the record: each clause of the refusals 1 to 4, and anything at random.
 
 use crate::labels::{
-    event_set, rows, Pending, Url, CONNECTIONS, CONNECTIONS_AT, HOSTS, HTTPS_HOSTS_AT, KEYS,
+    event_set, rows, Pending, Url, CONNECTIONS, CONNECTIONS_AT, ENTRY, HOSTS, HTTPS_HOSTS_AT, KEYS,
     NO_PARTNER, NO_URL, OPEN_AT, OUTPUT_BYTES, PARTNERS_AT, PICTURE, PRESENT_AT, SCRIPTS,
     STATE_WORDS, URLS,
 };
@@ -25,16 +25,16 @@ fn bit(random: &Random) -> u32 {
 pub fn damage_policy(policy: &mut Vec<u32>, random: &Random) {
     let url = 3 * random.below(URLS);
     let connection = CONNECTIONS_AT + 3 * random.below(CONNECTIONS);
-    match random.below(13) {
+    match random.below(15) {
         0 => resize(policy, random),
         1 => policy.truncate(random.pick(&[HTTPS_HOSTS_AT, PARTNERS_AT])),
-        2 => policy[url] = random.pick(&[32, 254, 255, 256, 0x8000_0000, random.word()]),
-        3 => remove_event(&mut policy[url..url + 3], random),
-        4 => leave_sets(&mut policy[url..url + 3], random),
-        5 => policy[connection + 1] |= bit(random),
-        6 => policy[random.pick(&[url, connection]) + random.below(3)] ^= bit(random),
-        7 => random.fill_words(policy),
-        8 => policy[HTTPS_HOSTS_AT] ^= bit(random),
+        2 | 3 => damage_address(policy, random),
+        4 => remove_event(&mut policy[url..url + 3], random),
+        5 => leave_sets(&mut policy[url..url + 3], random),
+        6 => policy[connection + 1] |= bit(random),
+        7 => policy[random.pick(&[url, connection]) + random.below(3)] ^= bit(random),
+        8 => random.fill_words(policy),
+        9 => policy[HTTPS_HOSTS_AT] ^= bit(random),
         _ => damage_partner(policy, random),
     }
 }
@@ -55,13 +55,43 @@ fn damage_partner(policy: &mut [u32], random: &Random) {
         random.word() % 256,
         empty,
         http,
+        http,
+        https,
         https,
         https,
     ]);
 }
 
+/// Gives a row another address word. Every second one of those in use can then be read by everyone, so that nothing but the word is wrong.
+fn damage_address(policy: &mut [u32], random: &Random) {
+    let used = rows(policy, Url::exists);
+    let either = random.pick(&[used, !used]);
+    let at = 3 * usize::from(random.bit_of(either).unwrap_or(0));
+    policy[at] = other_address(policy[at], random);
+    if either == used && random.one_in(2) {
+        policy[at + 1] = u32::MAX;
+    }
+}
+
+/// Another address word: one at a border of what there is, an entry's for one that is none or the other way round, one that is no address, or
+/// one with a bit that no address has.
+fn other_address(word: u32, random: &Random) -> u32 {
+    let border = random.pick(&[31, 32, 47, 48, 63, 64, 64, 254, 254, 255, 256]);
+    let none = random.within(64..=254) as u32;
+    let above = word | 1 << random.within(6..=31);
+    random.pick(&[
+        border,
+        border,
+        word ^ ENTRY,
+        word.wrapping_add(ENTRY),
+        none,
+        above,
+        random.word(),
+    ])
+}
+
 fn remove_event(url: &mut [u32], random: &Random) {
-    url[0] %= 32;
+    url[0] %= random.pick(&[ENTRY, 2 * ENTRY]);
     url[1] = random.pick(&[url[1], u32::MAX]) & !event_set(url[0]);
 }
 
@@ -145,12 +175,12 @@ pub fn estrange(policy: &mut [u32], state: &[u32], random: &Random) {
     if usize::from(url) >= URLS || !Url::of(policy, url).exists() {
         return;
     }
-    let at = 3 * usize::from(url);
-    let event = event_set(policy[at]);
+    let readers = 3 * usize::from(url) + 1;
     let writers = CONNECTIONS_AT + 3 * usize::from(connection) + 2;
+    let url = Url::of(policy, url);
     if random.one_in(2) {
-        policy[at + 1] = policy[at + 1] & random.word() | event;
+        policy[readers] = url.readers & random.word() | url.event();
     } else {
-        policy[writers] &= !(1 << policy[at]);
+        policy[writers] &= !url.message();
     }
 }

@@ -1,8 +1,8 @@
 //! Where a policy and a state have what, and which labels allow what. The generator asks this to make calls that come far.
 
 pub use reference::layout::{
-    CONNECTIONS, HOSTS, KEYS, OUTPUT_BYTES, POLICY_WORDS, SCRIPTS, SCRIPTS_BYTES, STATE_WORDS,
-    STEPS, STEP_BYTES, URLS,
+    CONNECTIONS, ENTRY, HOSTS, KEYS, OUTPUT_BYTES, POLICY_WORDS, SCRIPTS, SCRIPTS_BYTES,
+    STATE_WORDS, STEPS, STEP_BYTES, URLS,
 };
 
 pub const NO_URL: [u32; 3] = [255, 0, 0];
@@ -30,7 +30,8 @@ pub fn event_set(address: u32) -> u32 {
 
 #[derive(Clone, Copy)]
 pub struct Url {
-    pub address: u32,
+    /// The address, and for an entry `ENTRY` more.
+    pub word: u32,
     pub readers: u32,
     pub writers: u32,
 }
@@ -39,34 +40,49 @@ impl Url {
     pub fn of(policy: &[u32], url: u8) -> Url {
         let at = 3 * usize::from(url);
         Url {
-            address: policy[at],
+            word: policy[at],
             readers: policy[at + 1],
             writers: policy[at + 2],
         }
     }
 
     pub fn exists(self) -> bool {
-        self.address < 32
+        self.word < 2 * ENTRY
+    }
+
+    pub fn is_entry(self) -> bool {
+        self.exists() && self.word >= ENTRY
+    }
+
+    pub fn address(self) -> u32 {
+        self.word % ENTRY
     }
 
     pub fn host(self) -> usize {
-        self.address as usize % HOSTS
+        self.address() as usize % HOSTS
     }
 
     pub fn is_http(self) -> bool {
-        self.address < HOSTS as u32
+        self.exists() && self.address() < HOSTS as u32
     }
 
     pub fn is_https(self) -> bool {
         self.exists() && !self.is_http()
     }
 
-    fn message(self) -> u32 {
-        1 << self.address
+    /// The message endpoint, as a set.
+    pub fn message(self) -> u32 {
+        1 << self.address()
     }
 
-    fn event(self) -> u32 {
-        event_set(self.address)
+    /// The event endpoint, as a set.
+    pub fn event(self) -> u32 {
+        event_set(self.address())
+    }
+
+    /// Whether a redirect or a script of a connection with these writers may ask for it, where all else allows it.
+    pub fn admits(self, writers: u32) -> bool {
+        self.is_entry() || within(writers, self.writers)
     }
 }
 
@@ -104,6 +120,9 @@ impl Cookie {
     }
 }
 
+/// The conditions of a script's request but for the writers of its URL.
+const SEND_CONDITIONS: usize = 5;
+
 #[derive(Clone, Copy)]
 pub struct Connection {
     pub readers: u32,
@@ -126,18 +145,34 @@ impl Connection {
     }
 
     pub fn redirects_to(self, target: Url) -> bool {
-        self.fits(target)
-            && within(target.event(), self.readers)
-            && within(self.writers, target.writers)
+        self.fits(target) && within(target.event(), self.readers) && target.admits(self.writers)
     }
 
     /// Whether a script of this connection may request `url` on `other`.
     pub fn sends(self, url: Url, other: Connection) -> bool {
-        other.fits(url)
-            && within(url.event(), self.script_readers)
-            && within(other.readers, self.script_readers)
-            && within(self.writers, other.writers)
-            && within(self.writers, url.writers)
+        self.may_send(url, other) && url.admits(self.writers)
+    }
+
+    /// Whether it may if `url` admits it.
+    pub fn may_send(self, url: Url, other: Connection) -> bool {
+        url.exists() && self.send_conditions(url, other) == [true; SEND_CONDITIONS]
+    }
+
+    /// Whether just the condition of this number keeps it from that.
+    pub fn misses(self, condition: usize, url: Url, other: Connection) -> bool {
+        let mut conditions = self.send_conditions(url, other);
+        conditions[condition] = !conditions[condition];
+        url.exists() && conditions == [true; SEND_CONDITIONS]
+    }
+
+    fn send_conditions(self, url: Url, other: Connection) -> [bool; SEND_CONDITIONS] {
+        [
+            within(url.event(), self.script_readers),
+            within(other.readers, self.script_readers),
+            within(other.readers, url.readers),
+            within(url.message(), other.writers),
+            within(self.writers, other.writers),
+        ]
     }
 
     pub fn reads(self, cookie: Cookie) -> bool {

@@ -2,8 +2,8 @@
 //! from a small pool and change one endpoint here and there: tests of subsets then succeed often, and often fail by a single endpoint.
 
 use crate::labels::{
-    event_set, rows, Url, ALL, CONNECTIONS, CONNECTIONS_AT, COOKIES_AT, HOSTS, HTTPS_HOSTS_AT,
-    KEYS, NO_PARTNER, NO_URL, PARTNERS_AT, POLICY_WORDS, URLS,
+    event_set, rows, Url, ALL, CONNECTIONS, CONNECTIONS_AT, COOKIES_AT, ENTRY, HOSTS,
+    HTTPS_HOSTS_AT, KEYS, NO_PARTNER, NO_URL, PARTNERS_AT, POLICY_WORDS, URLS,
 };
 use crate::random::Random;
 
@@ -35,17 +35,23 @@ const STYLES: [(usize, Style); 7] = [
     (1, Style::Bare),
 ];
 
-/// Of any style; about half of them list hosts that are always https.
+/// Of any style; about half of them list hosts that are always https, and about half have entries.
 pub fn random_policy(random: &Random) -> Vec<u32> {
     let style = random.weighted(&STYLES);
     let mut policy = policy_of(style, random);
-    if style != Style::Document && random.one_in(2) {
+    if style == Style::Document {
+        return policy;
+    }
+    if random.one_in(2) {
         list_hosts(&mut policy, random);
+    }
+    if random.one_in(2) {
+        make_entries(&mut policy, random);
     }
     policy
 }
 
-/// Lists no host.
+/// Lists no host, and has no entry.
 pub fn policy_of(style: Style, random: &Random) -> Vec<u32> {
     match style {
         Style::Document => document(),
@@ -118,10 +124,8 @@ fn near_document(random: &Random) -> Vec<u32> {
 
 /// Adds or takes away what keeps a policy from being well formed.
 fn well_formed(policy: &mut [u32]) {
-    for url in policy[..COOKIES_AT].chunks_exact_mut(3) {
-        if url[0] < 32 {
-            url[1] |= event_set(url[0]);
-        }
+    for row in places_in(rows(policy, Url::exists)) {
+        policy[3 * row + 1] |= Url::of(policy, row as u8).event();
     }
     for connection in policy[CONNECTIONS_AT..HTTPS_HOSTS_AT].chunks_exact_mut(3) {
         connection[1] &= connection[0];
@@ -139,11 +143,9 @@ pub fn list_hosts(policy: &mut [u32], random: &Random) {
             add_url(policy, https, http, random);
         }
         let partners = rows_at(policy, https);
-        for row in 0..URLS {
-            if policy[3 * row] == http {
-                let partner = random.bit_of(partners).expect("the host has an https row");
-                policy[PARTNERS_AT + row] = partner.into();
-            }
+        for row in places_in(rows_at(policy, http)) {
+            let partner = random.bit_of(partners).expect("the host has an https row");
+            policy[PARTNERS_AT + row] = partner.into();
         }
     }
 }
@@ -153,7 +155,22 @@ const HOST_BITS: u32 = (1 << HOSTS) - 1;
 
 /// The rows of this address, as a mask.
 fn rows_at(policy: &[u32], address: u32) -> u64 {
-    rows(policy, |url| url.address == address)
+    rows(policy, |url| url.exists() && url.address() == address)
+}
+
+/// Makes some of the URLs entries. Writers are taken from many of these and from a few others, so that it matters which they are.
+pub fn make_entries(policy: &mut [u32], random: &Random) {
+    let one_in = random.pick(&[1, 2, 2, 4]);
+    for row in places_in(rows(policy, Url::exists)) {
+        let is_entry = random.one_in(one_in);
+        if is_entry {
+            policy[3 * row] += ENTRY;
+        }
+        if random.one_in(if is_entry { 2 } else { 6 }) {
+            let kept = random.pick(&[0, random.word(), lacking(ALL, random)]);
+            policy[3 * row + 2] &= kept;
+        }
+    }
 }
 
 /// A URL of this address in an empty row, with the sets of another URL; where no row is empty, one of the other address, which has the same
@@ -293,6 +310,11 @@ impl Outline {
         url[1] = self.set(random);
         url[2] = self.set(random);
     }
+}
+
+/// The rows of a mask.
+fn places_in(mask: u64) -> impl Iterator<Item = usize> {
+    (0..URLS).filter(move |row| mask >> row & 1 == 1)
 }
 
 /// Every place, or so many at random, perhaps some of them twice.

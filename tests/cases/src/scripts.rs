@@ -2,10 +2,10 @@
 //! a step here and there that ends it.
 
 use crate::labels::{
-    upgraded, Connection, Cookie, Url, CONNECTIONS, KEYS, SCRIPTS, STEPS, STEP_BYTES, URLS,
+    upgraded, within, Connection, Cookie, Url, CONNECTIONS, KEYS, SCRIPTS, STEPS, STEP_BYTES, URLS,
 };
 use crate::random::Random;
-use crate::setting::{Home, Setting};
+use crate::setting::{mask_of, Home, Setting};
 
 const END: u8 = 0;
 const CONSTANT: u8 = 1;
@@ -96,6 +96,8 @@ impl Composer<'_> {
             2 | 3 => self.whatever(random),
             4 => [END, random.byte(), random.byte(), random.byte()],
             5 => self.swayed(random),
+            6 if self.setting.has_entries() => self.linked(random),
+            7 if self.setting.has_entries() => self.just_missed(random),
             _ => self.kept(random),
         }
     }
@@ -181,8 +183,20 @@ impl Composer<'_> {
     /// Whether the home's labels allow a request to just this row.
     fn sends(&self, url: u8, connection: u8) -> bool {
         let policy = &self.setting.policy;
-        let home = Connection::of(policy, self.home.connection);
-        home.sends(Url::of(policy, url), Connection::of(policy, connection))
+        self.own()
+            .sends(Url::of(policy, url), Connection::of(policy, connection))
+    }
+
+    /// Whether they allow a request to this row if it is an entry, and only then.
+    fn sends_if_entry(&self, url: u8, connection: u8) -> bool {
+        let policy = &self.setting.policy;
+        let (own, url) = (self.own(), Url::of(policy, url));
+        own.may_send(url, Connection::of(policy, connection)) && !within(own.writers, url.writers)
+    }
+
+    /// The labels of the home's connection.
+    fn own(&self) -> Connection {
+        Connection::of(&self.setting.policy, self.home.connection)
     }
 
     /// A request that was allowed, to another URL or on another connection: often a single condition fails.
@@ -198,16 +212,62 @@ impl Composer<'_> {
 
     /// A request that the home's labels would allow if the URL were not replaced by its partner, if one is found in a few draws.
     fn swayed(&self, random: &Random) -> [u8; STEP_BYTES] {
+        let draw = |connection| {
+            let any = self.setting.upgraded_url(random)?;
+            let swayed = self.setting.swayed_url(connection, random).unwrap_or(any);
+            Some(random.pick(&[any, swayed]))
+        };
+        self.found(random, draw, |url, partner, connection| {
+            self.sends(url, connection) && !self.sends(partner, connection)
+        })
+    }
+
+    /// A request that is allowed if it goes to an entry, and only then, if one is found in a few draws.
+    fn linked(&self, random: &Random) -> [u8; STEP_BYTES] {
+        let draw = |connection| {
+            let any = self.setting.loadable_url(connection, random);
+            let half = self.setting.half_entry(random).unwrap_or(any);
+            Some(random.pick(&[any, half]))
+        };
+        self.found(random, draw, |_, asked, connection| {
+            self.sends_if_entry(asked, connection)
+        })
+    }
+
+    /// A request to an entry that a single condition forbids, if one is found in a few draws.
+    fn just_missed(&self, random: &Random) -> [u8; STEP_BYTES] {
+        let policy = &self.setting.policy;
+        // What seldom fails alone is looked for more often.
+        let condition = random.pick(&[0, 1, 2, 2, 2, 3, 3, 3, 4]);
+        let misses = |asked, connection| {
+            let (url, other) = (Url::of(policy, asked), Connection::of(policy, connection));
+            url.is_entry() && self.own().misses(condition, url, other)
+        };
+        let draw = |connection| {
+            let missed = mask_of(URLS, |url| misses(upgraded(policy, url), connection));
+            let any = self.setting.entry(random);
+            random.bit_of(missed).or(any)
+        };
+        self.found(random, draw, |_, asked, connection| {
+            misses(asked, connection)
+        })
+    }
+
+    /// A request to a URL that is drawn for a connection, where the URL, what is asked for in its place and the connection are wanted; else one
+    /// that is allowed.
+    fn found(
+        &self,
+        random: &Random,
+        draw: impl Fn(u8) -> Option<u8>,
+        wanted: impl Fn(u8, u8, u8) -> bool,
+    ) -> [u8; STEP_BYTES] {
         let mut step = self.request(random.pick(&[SEND, PICTURE]), random);
         for _ in 0..16 {
             let connection = self.setting.useful_connection(random);
-            let Some(any) = self.setting.upgraded_url(random) else {
+            let Some(url) = draw(connection) else {
                 break;
             };
-            let swayed = self.setting.swayed_url(connection, random).unwrap_or(any);
-            let url = random.pick(&[any, swayed]);
-            let partner = upgraded(&self.setting.policy, url);
-            if self.sends(url, connection) && !self.sends(partner, connection) {
+            if wanted(url, upgraded(&self.setting.policy, url), connection) {
                 step[1] = url;
                 step[2] = connection;
                 break;
@@ -219,10 +279,9 @@ impl Composer<'_> {
     /// A key of the page's host that the home may read or write.
     fn key(&self, random: &Random, allowed: impl Fn(Connection, Cookie) -> bool) -> Option<u8> {
         let policy = &self.setting.policy;
-        let home = Connection::of(policy, self.home.connection);
         let host = Url::of(policy, self.home.url).host();
         let keys = (0..KEYS as u8)
-            .filter(|&key| allowed(home, Cookie::of(policy, host, key)))
+            .filter(|&key| allowed(self.own(), Cookie::of(policy, host, key)))
             .fold(0, |mask, key| mask | 1 << key);
         random.bit_of(keys)
     }

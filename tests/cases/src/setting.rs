@@ -17,8 +17,10 @@ pub struct Setting {
     pub policy: Vec<u32>,
     pub scripts: Vec<u8>,
     urls: u64,
-    /// The http rows that have a partner.
+    entries: u64,
+    /// The http rows that have a partner, and those of them that are an entry where the partner is none, or the other way round.
     upgraded: u64,
+    half_entries: u64,
     /// By their own labels, whether they have a partner or not.
     fits: [u64; CONNECTIONS],
     fit_targets: [u64; CONNECTIONS],
@@ -44,7 +46,12 @@ impl Setting {
         };
         let mut setting = Setting {
             urls: rows(&policy, Url::exists),
+            entries: rows(&policy, Url::is_entry),
             upgraded: mask_of(URLS, |url| partner(&policy, url).is_some()),
+            half_entries: mask_of(URLS, |url| {
+                let asked = upgraded(&policy, url);
+                Url::of(&policy, url).is_entry() != Url::of(&policy, asked).is_entry()
+            }),
             fits: [0; CONNECTIONS],
             fit_targets: [0; CONNECTIONS],
             loads: [0; CONNECTIONS],
@@ -133,6 +140,19 @@ impl Setting {
         random.bit_of(self.upgraded)
     }
 
+    pub fn has_entries(&self) -> bool {
+        self.entries != 0
+    }
+
+    pub fn entry(&self, random: &Random) -> Option<u8> {
+        random.bit_of(self.entries)
+    }
+
+    /// A row that has a partner, and just one of the two is an entry.
+    pub fn half_entry(&self, random: &Random) -> Option<u8> {
+        random.bit_of(self.half_entries)
+    }
+
     /// An http row whose partner this is.
     pub fn http_of(&self, url: u8, random: &Random) -> Option<u8> {
         random.bit_of(mask_of(URLS, |row| partner(&self.policy, row) == Some(url)))
@@ -174,7 +194,7 @@ impl Setting {
     }
 }
 
-fn mask_of(count: usize, holds: impl Fn(u8) -> bool) -> u64 {
+pub(crate) fn mask_of(count: usize, holds: impl Fn(u8) -> bool) -> u64 {
     (0..count as u8)
         .filter(|&n| holds(n))
         .fold(0, |mask, n| mask | 1 << n)

@@ -6,6 +6,7 @@ use cases::labels::{DOCUMENT, OPEN_AT, PICTURE, SCRIPT, STEP_BYTES};
 use cases::record::{COOKIES, DOCUMENT_RESPONSE, PICTURE_RESPONSE, REDIRECT, SCRIPT_RESPONSE};
 use reference::numbers::{CUT_OR_TOO_LONG, KEY_MAP_EMPTY, READERS_FORBID, WRITERS_FORBID};
 use reference::Answer;
+use zolherima::Refusal;
 
 use crate::buffers::Buffers;
 use crate::case::play;
@@ -70,6 +71,55 @@ pub fn mistaking(mistake: impl Fn(&mut Buffers) + 'static) -> Monitor {
             return honest(buffers);
         }
         buffers.copy_written(&mistaken);
+        answer
+    })
+}
+
+/// A monitor that takes what it is lent for something else, whatever then comes of it.
+pub fn misjudging(mistake: impl Fn(&mut Buffers) + 'static) -> Monitor {
+    Box::new(move |buffers| {
+        let mut mistaken = buffers.clone();
+        mistake(&mut mistaken);
+        let answer = honest(&mut mistaken);
+        buffers.copy_written(&mistaken);
+        answer
+    })
+}
+
+/// A monitor that takes what it is lent for something else, where only what it sends is then another.
+pub fn missending(mistake: impl Fn(&mut Buffers) + 'static) -> Monitor {
+    let mistaking = mistaking(mistake);
+    Box::new(move |buffers| {
+        let mut mistaken = buffers.clone();
+        let wrong = mistaking(&mut mistaken);
+        let right = honest(buffers);
+        if wrong.steps != right.steps || mistaken.state.inside() != buffers.state.inside() {
+            return right;
+        }
+        buffers.copy_written(&mistaken);
+        wrong
+    })
+}
+
+/// A monitor that also refuses by this number where this holds: asked only of what no number up to it refuses.
+pub fn refusing(number: u32, refused: impl Fn(&Buffers) -> bool + 'static) -> Monitor {
+    let place = |of| {
+        Refusal::ALL
+            .iter()
+            .position(|refusal| refusal.number() == of)
+    };
+    Box::new(move |buffers| {
+        let mut kept = buffers.clone();
+        let answer = honest(&mut kept);
+        let passes = answer.number == 0 || place(answer.number) > place(number);
+        if passes && refused(buffers) {
+            return Answer {
+                number,
+                bytes: 0,
+                steps: 0,
+            };
+        }
+        buffers.copy_written(&kept);
         answer
     })
 }

@@ -1,6 +1,6 @@
 //! What the generator calls well formed and sound is so by the reference, and everything comes from the seed.
 
-use cases::labels::HTTPS_HOSTS_AT;
+use cases::labels::{rows, Url, HTTPS_HOSTS_AT};
 use cases::{Call, Random, Setting};
 use reference::numbers::KIND_UNKNOWN;
 use reference::Seen;
@@ -39,10 +39,15 @@ fn policies_are_well_formed_and_states_sound() {
 }
 
 #[test]
-fn about_half_of_the_policies_list_hosts() {
+fn about_half_of_the_policies_list_hosts_and_about_half_have_entries() {
     let policies = (0..400).map(|case| Setting::random(&Random::of_case(1, case)).policy);
-    let listing = policies.filter(|policy| policy[HTTPS_HOSTS_AT] != 0);
+    let policies: Vec<_> = policies.collect();
+    let listing = policies.iter().filter(|policy| policy[HTTPS_HOSTS_AT] != 0);
     assert!((160..240).contains(&listing.count()));
+    let having = policies
+        .iter()
+        .filter(|policy| rows(policy, Url::is_entry) != 0);
+    assert!((160..240).contains(&having.count()));
 }
 
 #[test]

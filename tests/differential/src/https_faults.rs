@@ -1,51 +1,20 @@
 //! Monitors that have a single fault about hosts that are always https: each is told from the reference.
 
 use cases::labels::{
-    partner, upgraded, Connection, Pending, Url, CONNECTIONS, COOKIES_AT, HOSTS, HTTPS_HOSTS_AT,
-    KEYS, NO_PARTNER, OPEN_AT, PARTNERS_AT, POLICY_WORDS, STATE_WORDS, STEPS, STEP_BYTES, URLS,
+    upgraded, Connection, Pending, Url, CONNECTIONS, COOKIES_AT, HOSTS, HTTPS_HOSTS_AT, KEYS,
+    NO_PARTNER, OPEN_AT, PARTNERS_AT, POLICY_WORDS, STEP_BYTES, URLS,
 };
-use cases::record::{
-    COOKIES, DOCUMENT_RESPONSE, LOAD, PICTURE_RESPONSE, REDIRECT, SCRIPT_RESPONSE,
-};
+use cases::record::{DOCUMENT_RESPONSE, LOAD, REDIRECT, SCRIPT_RESPONSE};
 use reference::numbers::{POLICY_BAD, STATE_UNSOUND};
-use reference::Answer;
 
+use crate::asked::{
+    asked, map, partner_of, pending, request_at, Asked, PICTURE_STEP, RESPONSES, SEND_STEP,
+};
 use crate::buffers::Buffers;
-use crate::checker::Monitor;
-use crate::faults::{assert_found, honest, mistaking};
-
-const SEND_STEP: u8 = 5;
-const PICTURE_STEP: u8 = 7;
+use crate::faults::{assert_found, missending, mistaking, refusing};
 
 const LAST_ROW: u8 = URLS as u8 - 1;
 const LAST_HOST: usize = HOSTS - 1;
-
-const RESPONSES: [u8; 3] = [DOCUMENT_RESPONSE, SCRIPT_RESPONSE, PICTURE_RESPONSE];
-
-/// The map of the record, cookies aside; 0 where it is empty.
-fn map(buffers: &Buffers) -> u8 {
-    buffers.record.inside().first().unwrap_or(&0) & !COOKIES
-}
-
-/// The number of a load's URL or of a redirect's target: where it stands in the record, if it is there.
-fn request_at(buffers: &Buffers) -> Option<usize> {
-    let record = buffers.record.inside();
-    let place = match map(buffers) {
-        LOAD => 1,
-        REDIRECT => record.len() - 1,
-        _ => return None,
-    };
-    (place < record.len()).then_some(place)
-}
-
-/// The partner of a row, where the policy has its length and both numbers are below 64.
-fn partner_of(buffers: &Buffers, url: u8) -> Option<u8> {
-    let policy = buffers.policy.inside();
-    match policy.len() == POLICY_WORDS && usize::from(url) < URLS {
-        true => partner(policy, url).filter(|&url| usize::from(url) < URLS),
-        false => None,
-    }
-}
 
 /// Replaces a byte by the partner of the row that it names.
 fn upgrade_record(buffers: &mut Buffers, place: usize) {
@@ -87,15 +56,15 @@ fn a_url_that_is_replaced_in_a_response_is_found() {
 
 #[test]
 fn a_url_that_is_not_replaced_is_found() {
-    for (of_map, what) in [(LOAD, "state"), (REDIRECT, "answer's number")] {
+    for of_map in [LOAD, REDIRECT] {
         let leaves = mistaking(move |buffers| {
             if map(buffers) == of_map {
                 unlist(buffers);
             }
         });
-        assert_found(leaves, what);
+        assert_found(leaves, "state");
     }
-    for (other_op, what) in [(PICTURE_STEP, "output"), (SEND_STEP, "state")] {
+    for (other_op, what) in [(PICTURE_STEP, "state"), (SEND_STEP, "answer's bytes")] {
         let leaves = mistaking(move |buffers| {
             if RESPONSES.contains(&map(buffers)) {
                 upgrade_steps(buffers, other_op);
@@ -126,51 +95,20 @@ fn a_number_that_is_cut_is_found() {
     }
 }
 
-/// What waits on the connection that the record names.
-fn pending(buffers: &Buffers) -> Option<Pending> {
-    let &[_, _, connection, ..] = buffers.record.inside() else {
-        return None;
-    };
-    let state = buffers.state.inside();
-    let exists = state.len() == STATE_WORDS && usize::from(connection) < CONNECTIONS;
-    exists.then(|| Pending::of(state, connection))
-}
-
 fn set_pending(buffers: &mut Buffers, pending: Pending) {
     let connection = usize::from(buffers.record.inside()[2]);
     buffers.state.inside_mut()[OPEN_AT + connection] = pending.word();
 }
 
-/// The steps of the script that a response runs.
-fn steps(buffers: &Buffers) -> &[u8] {
-    let script = match (map(buffers), pending(buffers)) {
-        (DOCUMENT_RESPONSE, _) => buffers.record.inside().last().copied(),
-        (SCRIPT_RESPONSE, Some(pending)) => Some(pending.handler),
-        _ => None,
-    };
-    let mut scripts = buffers.scripts.inside().chunks_exact(STEPS * STEP_BYTES);
-    let steps = script.and_then(|script| scripts.nth(script.into()));
-    steps.unwrap_or_default()
-}
-
-/// The URLs that are asked for, each with its place, which is the map of a load or of a redirect, or the op of a step.
-fn asked(buffers: &Buffers) -> Vec<(u8, u8)> {
-    if let Some(at) = request_at(buffers) {
-        return vec![(map(buffers), buffers.record.inside()[at])];
-    }
-    let steps = steps(buffers).chunks_exact(STEP_BYTES);
-    let requests = steps.filter(|step| [SEND_STEP, PICTURE_STEP].contains(&step[0]));
-    requests.map(|step| (step[0], step[1])).collect()
-}
-
 /// What is replaced at a place, as row, partner and host, where nothing else is asked for at that host.
 fn replaced(buffers: &Buffers, place: u8) -> Vec<(u8, u8, usize)> {
     let (mut replaced, mut others) = (Vec::new(), Vec::new());
-    for (at, row) in asked(buffers) {
+    for asked in asked(buffers) {
+        let Asked { row, .. } = asked;
         let address = buffers.policy.inside().get(3 * usize::from(row));
         let host = *address.unwrap_or(&0) as usize % HOSTS;
         match partner_of(buffers, row) {
-            Some(partner) if at == place => replaced.push((row, partner, host)),
+            Some(partner) if asked.place == place => replaced.push((row, partner, host)),
             _ => others.push(host),
         }
     }
@@ -197,21 +135,6 @@ fn a_url_that_is_judged_before_it_is_replaced_is_found() {
         let judges = mistaking(move |buffers| judge_rows(buffers, place));
         assert_found(judges, "answer's bytes");
     }
-}
-
-/// A monitor that takes what it is lent for something else, where only what it sends is then another.
-fn missending(mistake: impl Fn(&mut Buffers) + 'static) -> Monitor {
-    let mistaking = mistaking(mistake);
-    Box::new(move |buffers| {
-        let mut mistaken = buffers.clone();
-        let wrong = mistaking(&mut mistaken);
-        let right = honest(buffers);
-        if wrong.steps != right.steps || mistaken.state.inside() != buffers.state.inside() {
-            return right;
-        }
-        buffers.copy_written(&mistaken);
-        wrong
-    })
 }
 
 /// The partner's request with the cookies that the row itself would carry.
@@ -259,23 +182,6 @@ fn a_page_that_is_replaced_is_found() {
     assert_found(redirect, "state");
 }
 
-/// A monitor that also refuses by this number, 2 or 4, where this holds: asked only of what no number up to it refuses.
-fn refusing(number: u32, refused: fn(&Buffers) -> bool) -> Monitor {
-    Box::new(move |buffers| {
-        let mut kept = buffers.clone();
-        let answer = honest(&mut kept);
-        if !(1..=number).contains(&answer.number) && refused(buffers) {
-            return Answer {
-                number,
-                bytes: 0,
-                steps: 0,
-            };
-        }
-        buffers.copy_written(&kept);
-        answer
-    })
-}
-
 /// Whether some connection holds an http row whose partner it does not fit.
 fn holds_what_does_not_fit(buffers: &Buffers) -> bool {
     let (policy, state) = (buffers.policy.inside(), buffers.state.inside());
@@ -294,7 +200,7 @@ fn a_state_that_is_judged_by_partners_is_found() {
 
 /// What is wrong with the word of a row's partner.
 #[derive(Clone, Copy, PartialEq, Eq)]
-enum Flaw {
+pub enum Flaw {
     Missing,
     Above,
     Empty,
@@ -304,38 +210,53 @@ enum Flaw {
     NotOne,
 }
 
-fn flaw(policy: &[u32], row: u8) -> Option<Flaw> {
+/// A wrong partner: its row, and the row that its word names, if there is one.
+pub struct Wrong {
+    pub row: u8,
+    pub own: Url,
+    pub other: Option<Url>,
+    pub flaw: Flaw,
+}
+
+fn wrong(policy: &[u32], row: u8) -> Option<Wrong> {
     let word = policy[PARTNERS_AT + usize::from(row)];
     let own = Url::of(policy, row);
-    if !own.is_http() || policy[HTTPS_HOSTS_AT] >> own.host() & 1 == 0 {
-        return (word != NO_PARTNER).then_some(Flaw::NotOne);
-    }
-    if word >= URLS as u32 {
-        let missing = word == NO_PARTNER;
-        return Some(if missing { Flaw::Missing } else { Flaw::Above });
-    }
-    let other = Url::of(policy, word as u8);
-    match other.exists() {
-        false => Some(Flaw::Empty),
-        true if other.is_http() => Some(Flaw::Http),
-        true => (other.host() != own.host()).then_some(Flaw::OtherHost),
-    }
+    let other = (word < URLS as u32).then(|| Url::of(policy, word as u8));
+    let is_listed = own.is_http() && policy[HTTPS_HOSTS_AT] >> own.host() & 1 == 1;
+    let flaw = match (word, other) {
+        (NO_PARTNER, _) if !is_listed => return None,
+        _ if !is_listed => Flaw::NotOne,
+        (NO_PARTNER, _) => Flaw::Missing,
+        (_, None) => Flaw::Above,
+        (_, Some(url)) if !url.exists() => Flaw::Empty,
+        (_, Some(url)) if url.is_http() => Flaw::Http,
+        (_, Some(url)) if url.host() != own.host() => Flaw::OtherHost,
+        _ => return None,
+    };
+    Some(Wrong {
+        row,
+        own,
+        other,
+        flaw,
+    })
 }
 
 /// Puts right each partner whose flaw is overlooked, where the host has an https row; where it has none, the host is taken off the list.
-fn overlook(buffers: &mut Buffers, overlooked: fn(u8, Url, Flaw) -> bool) {
+pub fn overlook(buffers: &mut Buffers, overlooked: fn(&Wrong) -> bool) {
     let policy = buffers.policy.inside_mut();
     if policy.len() != POLICY_WORDS {
         return;
     }
     for row in 0..URLS as u8 {
-        let (place, own) = (PARTNERS_AT + usize::from(row), Url::of(policy, row));
-        let Some(flaw) = flaw(policy, row).filter(|&flaw| overlooked(row, own, flaw)) else {
+        let Some(Wrong { own, flaw, .. }) = wrong(policy, row).filter(overlooked) else {
             continue;
         };
-        let fits = |url: &u8| Url::of(policy, *url).address == own.address + HOSTS as u32;
-        let right = (0..URLS as u8).find(fits).map(u32::from);
-        policy[place] = match flaw {
+        let is_right = |url: &u8| {
+            let url = Url::of(policy, *url);
+            url.is_https() && url.host() == own.host()
+        };
+        let right = (0..URLS as u8).find(is_right).map(u32::from);
+        policy[PARTNERS_AT + usize::from(row)] = match flaw {
             Flaw::NotOne => NO_PARTNER,
             _ => right.unwrap_or(NO_PARTNER),
         };
@@ -347,15 +268,15 @@ fn overlook(buffers: &mut Buffers, overlooked: fn(u8, Url, Flaw) -> bool) {
 
 #[test]
 fn a_wrong_partner_that_is_taken_is_found() {
-    let overlooked: [fn(u8, Url, Flaw) -> bool; 8] = [
-        |_, _, flaw| flaw == Flaw::Missing,
-        |_, _, flaw| flaw == Flaw::Above,
-        |_, _, flaw| flaw == Flaw::Empty,
-        |_, _, flaw| flaw == Flaw::Http,
-        |_, _, flaw| flaw == Flaw::OtherHost,
-        |_, _, flaw| flaw == Flaw::NotOne,
-        |row, _, _| row == LAST_ROW,
-        |_, url, _| url.exists() && url.host() == LAST_HOST,
+    let overlooked: [fn(&Wrong) -> bool; 8] = [
+        |wrong| wrong.flaw == Flaw::Missing,
+        |wrong| wrong.flaw == Flaw::Above,
+        |wrong| wrong.flaw == Flaw::Empty,
+        |wrong| wrong.flaw == Flaw::Http,
+        |wrong| wrong.flaw == Flaw::OtherHost,
+        |wrong| wrong.flaw == Flaw::NotOne,
+        |wrong| wrong.row == LAST_ROW,
+        |wrong| wrong.own.exists() && wrong.own.host() == LAST_HOST,
     ];
     for overlooked in overlooked {
         let takes = mistaking(move |buffers| overlook(buffers, overlooked));
@@ -366,7 +287,8 @@ fn a_wrong_partner_that_is_taken_is_found() {
 #[test]
 fn a_last_row_or_host_that_is_left_out_is_found() {
     let row = mistaking(|buffers| {
-        if asked(buffers) == [(LOAD, LAST_ROW)] {
+        let is_last = |asked: &Asked| (asked.place, asked.row) == (LOAD, LAST_ROW);
+        if asked(buffers).first().is_some_and(is_last) {
             unlist(buffers);
         }
     });

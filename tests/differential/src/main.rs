@@ -1,10 +1,16 @@
 //! Feeds random calls and whole runs to the proved library and to two other implementations of document 01, and compares answer, state,
 //! output and every byte around them after each call.
 
+#[cfg(test)]
+mod address_faults;
+#[cfg(test)]
+mod asked;
 mod buffers;
 mod case;
 mod checker;
 mod difference;
+#[cfg(test)]
+mod entry_faults;
 #[cfg(test)]
 mod faults;
 #[cfg(test)]

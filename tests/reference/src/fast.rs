@@ -14,7 +14,7 @@ type Policy = [u32; POLICY_WORDS];
 type State = [u32; STATE_WORDS];
 type Output = [u8; OUTPUT_BYTES];
 
-/// Address, readers, writers.
+/// Address word, readers, writers.
 type UrlRow = [u32; 3];
 /// Readers, script readers, writers.
 type ConnectionRow = [u32; 3];
@@ -67,6 +67,27 @@ fn judge(
 fn url_row(policy: &Policy, number: u32) -> UrlRow {
     let place = 3 * (number as usize % URLS);
     [policy[place], policy[place + 1], policy[place + 2]]
+}
+
+/// The address of an address word: an entry's has one bit more. A word of no URL
+/// keeps a bit that no address has.
+#[inline(always)]
+fn address_of(word: u32) -> u32 {
+    word & !ENTRY
+}
+
+/// The host of an address word: its lowest bits.
+#[inline(always)]
+fn host_of(word: u32) -> u32 {
+    word % HOSTS as u32
+}
+
+/// Those who may have shaped a redirect to a row or a script's request: its
+/// writers, and for an entry all endpoints. Without a branch, since which it is
+/// could not be foreseen.
+#[inline(always)]
+fn admitted(&[word, _, writers]: &UrlRow) -> u32 {
+    writers | (word / ENTRY % 2).wrapping_neg()
 }
 
 /// The number after the replacement: the row's https partner where it has one.
@@ -160,8 +181,8 @@ fn all_empty(rows: &[UrlRow; 8]) -> bool {
 }
 
 #[inline(always)]
-fn is_used(&[address, readers, _]: &UrlRow) -> bool {
-    address < ADDRESSES && holds(readers, address % 16)
+fn is_used(&[word, readers, _]: &UrlRow) -> bool {
+    address_of(word) < ADDRESSES && holds(readers, host_of(word))
 }
 
 /// Used and empty rows mixed. Apart, so that the path of the used rows stays
@@ -205,9 +226,10 @@ fn partners_well_formed(policy: &Policy) -> bool {
 fn each_partner_well_formed(policy: &Policy, hosts: u32) -> bool {
     let (rows, _) = policy[..POLICY_COOKIES].as_chunks::<3>();
     let partners = &policy[POLICY_PARTNERS..];
-    rows.iter().zip(partners).all(|(&[address, ..], &partner)| {
+    rows.iter().zip(partners).all(|(&[word, ..], &partner)| {
+        let address = address_of(word);
         if address < 16 && holds(hosts, address) {
-            partner < 64 && url_row(policy, partner)[0] == address + 16
+            partner < 64 && address_of(url_row(policy, partner)[0]) == address + 16
         } else {
             partner == NO_PARTNER
         }
@@ -284,7 +306,8 @@ fn pending_sound(policy: &Policy, some_empty: bool, state: &State) -> bool {
 /// seldom empty.
 #[inline(always)]
 fn open_sound(policy: &Policy, some_empty: bool, row: &ConnectionRow, word: u32) -> bool {
-    let [address, readers, _] = url_row(policy, word);
+    let [url, readers, _] = url_row(policy, word);
+    let address = address_of(url);
     if address >= ADDRESSES || outside(row[0], readers) != 0 || !holds(row[2], address) {
         return false;
     }
@@ -444,7 +467,7 @@ fn check_record(policy: &Policy, state: &mut State, record: &Record) -> Result<(
     let same_url = word % 256 == record.url;
     let check_awaited = |kind| check_match(same_url && word >> 24 == kind);
     match record.kind {
-        Kind::Load => check_fit(outside(row[0], url[1]), holds(row[2], url[0])),
+        Kind::Load => check_fit(outside(row[0], url[1]), holds(row[2], address_of(url[0]))),
         Kind::Document(script) if script > 15 => Err(NAME_UNKNOWN),
         Kind::Document(_) => check_awaited(KIND_DOCUMENT),
         Kind::Script(_) => check_awaited(KIND_SCRIPT),
@@ -455,8 +478,9 @@ fn check_record(policy: &Policy, state: &mut State, record: &Record) -> Result<(
                 return Err(NAME_UNKNOWN);
             }
             check_match(same_url && word != 0)?;
-            let event = u32::from(!holds(row[0], to[0] % 16));
-            let writers = holds(row[2], to[0]) && outside(row[2], to[2]) == 0;
+            let event = u32::from(!holds(row[0], host_of(to[0])));
+            let message = holds(row[2], address_of(to[0]));
+            let writers = message && outside(row[2], admitted(&to)) == 0;
             check_fit(event | outside(row[0], to[1]), writers)
         }
     }
@@ -527,7 +551,7 @@ fn without_script(bytes: usize) -> Answer {
 /// Stores the delivered cookies that may be stored.
 #[inline(always)]
 fn store_cookies(policy: &Policy, state: &mut State, record: &Record) {
-    let host = url_row(policy, record.url)[0] % 16;
+    let host = host_of(url_row(policy, record.url)[0]);
     let row = connection_row(policy, record.connection);
     let mut keys = record.keys;
     let mut stored = 0;
@@ -557,7 +581,7 @@ fn write_request(
     let Some(out) = out[place..].first_chunk_mut::<REQUEST_BYTES>() else {
         return place;
     };
-    let address = url_row(policy, word)[0];
+    let address = address_of(url_row(policy, word)[0]);
     out[1] = word as u8;
     out[2] = connection as u8;
     let (keys, mut length) = write_cookies(policy, state, address, out);
@@ -583,7 +607,7 @@ fn write_cookies(
     address: u32,
     out: &mut [u8; REQUEST_BYTES],
 ) -> (u32, usize) {
-    let host = address % 16;
+    let host = host_of(address);
     let keys = carried(policy, *present(state, host), address);
     if keys == 0 {
         return (0, 3);
@@ -616,7 +640,7 @@ fn carried(policy: &Policy, present: u32, address: u32) -> u32 {
     }
     let mut keys = 0;
     for key in 0..8 {
-        let [readers, _] = cookie_tag(policy, address % 16 * 8 + key);
+        let [readers, _] = cookie_tag(policy, 8 * host_of(address) + key);
         keys |= u32::from(holds(readers, address)) << key;
     }
     keys & present
@@ -627,7 +651,7 @@ fn carried(policy: &Policy, present: u32, address: u32) -> u32 {
 fn all_hold(policy: &Policy, address: u32) -> bool {
     let mut common = u32::MAX;
     for key in 0..8 {
-        let [readers, _] = cookie_tag(policy, address % 16 * 8 + key);
+        let [readers, _] = cookie_tag(policy, 8 * host_of(address) + key);
         common &= readers;
     }
     holds(common, address)
@@ -664,7 +688,7 @@ fn run(
         out,
         bytes: 0,
         page,
-        host: url_row(policy, page)[0] % 16,
+        host: host_of(url_row(policy, page)[0]),
         readers,
         writers,
         registers: [value, 0, 0, 0],
@@ -758,10 +782,10 @@ impl Interpreter<'_> {
         let url = url_row(self.policy, word);
         let other = connection_row(self.policy, connection);
         let allowed = url[0] != NO_ADDRESS
-            && holds(self.readers, url[0] % 16)
+            && holds(self.readers, host_of(url[0]))
             && outside(other[0], self.readers & url[1]) == 0
-            && holds(other[2], url[0])
-            && outside(self.writers, other[2] & url[2]) == 0;
+            && holds(other[2], address_of(url[0]))
+            && outside(self.writers, other[2] & admitted(&url)) == 0;
         if !allowed {
             return None;
         }

@@ -1,5 +1,6 @@
 //! The interpreter of scripts.
 
+use crate::entry::{self, Asked};
 use crate::kind::ConnectionKind;
 use crate::layout::*;
 use crate::policy::{ConnectionTag, Policy, Url};
@@ -134,6 +135,7 @@ impl Interpreter<'_> {
         let value = self.state.cookie(self.host(), b);
         self.registers[a] = value.ok_or(End(Event::EndReadAbsent))?;
         self.seen.note(Event::StepRead);
+        self.note_entry_page(Event::StepReadEntry);
         Ok(0)
     }
 
@@ -145,15 +147,15 @@ impl Interpreter<'_> {
         let b = below(REGISTERS, b, Event::EndWriteRegister)?;
         let own = self.own();
         let cookie = self.policy.cookie(self.host(), a);
-        self.seen
-            .note(if !cookie.readers.within(own.script_readers) {
-                Event::StepWriteReaders
-            } else if !own.writers.within(cookie.writers) {
-                Event::StepWriteWriters
-            } else {
-                self.state.store(self.host(), a, self.registers[b]);
-                Event::StepWrite
-            });
+        if !cookie.readers.within(own.script_readers) {
+            self.seen.note(Event::StepWriteReaders);
+        } else if !own.writers.within(cookie.writers) {
+            self.seen.note(Event::StepWriteWriters);
+        } else {
+            self.state.store(self.host(), a, self.registers[b]);
+            self.seen.note(Event::StepWrite);
+            self.note_entry_page(Event::StepWriteEntry);
+        }
         Ok(0)
     }
 
@@ -212,19 +214,26 @@ impl Interpreter<'_> {
     /// that was replaced.
     fn check_labels(&mut self, named: Named, step: &RequestStep) -> Result<(), End> {
         let checked = self.check_request(named.connection, named.url, step);
+        let clause = |End(event)| event;
         if named.url != named.row {
             let row = self.check_request(named.connection, named.row, step);
-            let clause = |End(event)| event;
             step.upgrade
                 .note(checked.map_err(clause), row.map_err(clause), self.seen);
         }
+        let asked = Asked {
+            url: *self.url(named.url),
+            named: *self.url(named.row),
+            from: *self.url(self.page),
+            writers: self.own().writers,
+        };
+        step.entry.note(&asked, checked.map_err(clause), self.seen);
         checked
     }
 
     /// A request is allowed if: the URL's event endpoint is in the script
     /// readers; the other connection's readers are within the script readers;
     /// that connection fits the URL; the own writers are within that
-    /// connection's writers and within the URL's writers.
+    /// connection's writers, and the URL admits them.
     fn check_request(&self, connection: usize, url: usize, step: &RequestStep) -> Result<(), End> {
         let url = self.url(url);
         let own = self.own();
@@ -234,7 +243,7 @@ impl Interpreter<'_> {
         require(other.readers_fit(url), step.fit_readers)?;
         require(other.writers_fit(url), step.fit_writers)?;
         require(own.writers.within(other.writers), step.writers)?;
-        require(own.writers.within(url.writers), step.url_writers)
+        require(url.admits(own.writers), step.url_writers)
     }
 
     /// Opens a connection, replacing what was there, and sends its request;
@@ -291,6 +300,12 @@ impl Interpreter<'_> {
     /// A URL that was checked.
     fn url(&self, number: usize) -> &Url {
         self.policy.url(number).expect("the URL was checked")
+    }
+
+    /// What a script does whose page is an entry.
+    fn note_entry_page(&mut self, event: Event) {
+        let page = *self.url(self.page);
+        entry::note(&page, event, self.seen);
     }
 
     /// Whose page is the origin of a send, where that page is an http row of

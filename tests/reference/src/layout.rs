@@ -56,6 +56,8 @@ pub const OUTPUT_BYTES: usize = STEPS * REQUEST_BYTES;
 pub const NO_ADDRESS: u32 = 255;
 /// Addresses are below this.
 pub const ADDRESSES: u32 = 32;
+/// The address word of an entry is so much more than its address.
+pub const ENTRY: u32 = 32;
 /// The partner of a row that has none.
 pub const NO_PARTNER: u32 = 255;
 

@@ -9,6 +9,7 @@
 #![forbid(unsafe_code)]
 
 mod endpoint;
+mod entry;
 mod fast;
 mod interpreter;
 mod kind;

@@ -1,5 +1,6 @@
 //! One record after another: refused by number, or carried out.
 
+use crate::entry::{self, Asked};
 use crate::interpreter::Interpreter;
 use crate::kind::ConnectionKind;
 use crate::layout::*;
@@ -86,7 +87,7 @@ fn judge(
     let record = record::upgraded(&named, &policy);
     record::check_numbers(&record, &policy).map_err(refuse(NAME_UNKNOWN))?;
     check_match(&record, &state, &policy).map_err(refuse(NOT_AWAITED))?;
-    note_upgrade(&record, &named, &policy, seen);
+    note_labels(&record, &named, &policy, seen);
     check_readers(&record, &policy).map_err(refuse(READERS_FORBID))?;
     check_writers(&record, &policy).map_err(refuse(WRITERS_FORBID))?;
     Ok(Accepted {
@@ -170,7 +171,7 @@ fn check_readers(record: &Record, policy: &Policy) -> Result<(), Event> {
 }
 
 /// A load's message endpoint is in the connection's writers; so is a
-/// redirect target's, and the writers are within the target's writers.
+/// redirect target's, and the target admits the writers.
 fn check_writers(record: &Record, policy: &Policy) -> Result<(), Event> {
     let tag = policy.connection(record.connection);
     match record.kind {
@@ -180,7 +181,7 @@ fn check_writers(record: &Record, policy: &Policy) -> Result<(), Event> {
             if !tag.writers_fit(target) {
                 return Err(Event::WritersRedirectMessage);
             }
-            if !tag.writers.within(target.writers) {
+            if !target.admits(tag.writers) {
                 return Err(Event::WritersRedirect);
             }
             Ok(())
@@ -197,11 +198,29 @@ fn upgrade_of(kind: Kind) -> &'static Upgrade {
     }
 }
 
-/// What labels say of the record, where it is not the one that was named.
-fn note_upgrade(record: &Record, named: &Record, policy: &Policy, seen: &mut Seen) {
+/// What labels say of the record, and of the one that was named where that is
+/// another.
+fn note_labels(record: &Record, named: &Record, policy: &Policy, seen: &mut Seen) {
+    let labels = |of| check_readers(of, policy).and_then(|()| check_writers(of, policy));
     if record != named {
-        let labels = |of| check_readers(of, policy).and_then(|()| check_writers(of, policy));
         upgrade_of(record.kind).note(labels(record), labels(named), seen);
+    }
+    let writers = policy.connection(record.connection).writers;
+    match record.kind {
+        Kind::Load => {
+            let urls = [record, named].map(|of| known_url(policy, of.url));
+            entry::note_load(urls, writers, labels(record), seen);
+        }
+        Kind::Redirect => {
+            let asked = Asked {
+                url: *known_url(policy, record.target),
+                named: *known_url(policy, named.target),
+                from: *known_url(policy, record.url),
+                writers,
+            };
+            entry::REDIRECT.note(&asked, labels(record), seen);
+        }
+        Kind::Response(_) => {}
     }
 }
 
@@ -271,6 +290,7 @@ impl Accepted {
         if kind == ConnectionKind::Script && self.policy.partner(origin).is_some() {
             seen.note(Event::RedirectHttpOrigin);
         }
+        self.note_excused(kind, seen);
     }
 
     /// Response: its cookies are stored and the connection is freed. Then a
@@ -369,10 +389,25 @@ impl Accepted {
         }
     }
 
+    /// Of which kind a redirect is whose writers the target does not have.
+    fn note_excused(&self, kind: ConnectionKind, seen: &mut Seen) {
+        let tag = self.policy.connection(self.record.connection);
+        let target = known_url(&self.policy, self.record.target);
+        if !tag.writers.within(target.writers) {
+            seen.note(match kind {
+                ConnectionKind::Document => Event::RedirectExcusedDocument,
+                ConnectionKind::Script => Event::RedirectExcusedScript,
+                ConnectionKind::Picture => Event::RedirectExcusedPicture,
+            });
+        }
+    }
+
     fn note_stored(&self, seen: &mut Seen) {
         if self.record.kind == Kind::Response(ConnectionKind::Picture) {
             seen.note(Event::PictureResponseStores);
         }
+        let url = known_url(&self.policy, self.record.url);
+        entry::note(url, Event::CookieStoredEntry, seen);
     }
 }
 

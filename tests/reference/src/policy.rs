@@ -10,6 +10,8 @@ use crate::seen::Event;
 pub struct Url {
     /// 0 to 31: host for http, 16 + host for https.
     pub address: u32,
+    /// Whether it is an entry, which anyone may link to.
+    pub is_entry: bool,
     pub readers: EndpointSet,
     pub writers: EndpointSet,
 }
@@ -33,6 +35,20 @@ impl Url {
     /// Whether it is https and not http.
     fn is_https(&self) -> bool {
         self.address >= HOSTS as u32
+    }
+
+    /// Whether a redirect or a script that these have shaped may ask for it:
+    /// they are within its writers, which is not asked of an entry.
+    pub fn admits(&self, writers: EndpointSet) -> bool {
+        self.is_entry || writers.within(self.writers)
+    }
+
+    /// The clause that it breaks: the second one for an entry.
+    pub fn clause(&self, of_other: Event, of_entry: Event) -> Event {
+        match self.is_entry {
+            false => of_other,
+            true => of_entry,
+        }
     }
 }
 
@@ -124,29 +140,44 @@ impl Policy {
     }
 }
 
-/// Each row is empty or has an address 0 to 31 and its event endpoint among
-/// its readers.
+/// Each row is empty or has an address and its event endpoint among its
+/// readers.
 fn read_url(words: &[u32]) -> Result<Option<Url>, Event> {
-    let url = Url {
-        address: words[0],
-        readers: EndpointSet(words[1]),
-        writers: EndpointSet(words[2]),
-    };
-    if url.address == NO_ADDRESS {
-        let empty = url.readers == EndpointSet::EMPTY && url.writers == EndpointSet::EMPTY;
+    let [readers, writers] = [words[1], words[2]].map(EndpointSet);
+    if words[0] == NO_ADDRESS {
+        let empty = readers == EndpointSet::EMPTY && writers == EndpointSet::EMPTY;
         return if empty {
             Ok(None)
         } else {
             Err(Event::PolicyEmptyRowSets)
         };
     }
-    if url.address >= ADDRESSES {
-        return Err(Event::PolicyAddress);
-    }
+    let (address, is_entry) = read_address(words[0])?;
+    let url = Url {
+        address,
+        is_entry,
+        readers,
+        writers,
+    };
     if !url.readers.holds(url.event_endpoint()) {
-        return Err(Event::PolicyEventEndpoint);
+        return Err(url.clause(Event::PolicyEventEndpoint, Event::PolicyEventEndpointEntry));
     }
     Ok(Some(url))
+}
+
+/// The address, and whether it is an entry's: the word is an address 0 to 31,
+/// or 32 more than the address of an entry.
+fn read_address(word: u32) -> Result<(u32, bool), Event> {
+    if word < ADDRESSES {
+        return Ok((word, false));
+    }
+    if word < ENTRY + ADDRESSES {
+        return Ok((word - ENTRY, true));
+    }
+    Err(match word < NO_ADDRESS {
+        true => Event::PolicyAddress,
+        false => Event::PolicyAddressAbove,
+    })
 }
 
 fn read_cookie_tag(words: &[u32]) -> CookieTag {
@@ -187,9 +218,15 @@ fn read_partner(
 ) -> Result<Option<usize>, Event> {
     let clause = match row {
         None => Event::PolicyPartnerOfEmpty,
-        Some(url) if url.is_https() => Event::PolicyPartnerOfHttps,
-        Some(url) if !https_hosts[url.host()] => Event::PolicyPartnerNotListed,
-        Some(url) => return read_https_row(word, url.host(), urls).map(Some),
+        Some(url) if url.is_https() => url.clause(
+            Event::PolicyPartnerOfHttps,
+            Event::PolicyPartnerOfHttpsEntry,
+        ),
+        Some(url) if !https_hosts[url.host()] => url.clause(
+            Event::PolicyPartnerNotListed,
+            Event::PolicyPartnerNotListedEntry,
+        ),
+        Some(url) => return read_https_row(word, url, urls).map(Some),
     };
     match word {
         NO_PARTNER => Ok(None),
@@ -197,19 +234,22 @@ fn read_partner(
     }
 }
 
-/// The number of a non-empty https row of this host.
-fn read_https_row(word: u32, host: usize, urls: &[Option<Url>]) -> Result<usize, Event> {
+/// The number of a non-empty https row of the host of an http row.
+fn read_https_row(word: u32, http: &Url, urls: &[Option<Url>]) -> Result<usize, Event> {
     if word == NO_PARTNER {
-        return Err(Event::PolicyPartnerMissing);
+        return Err(http.clause(
+            Event::PolicyPartnerMissing,
+            Event::PolicyPartnerMissingEntry,
+        ));
     }
     let number = word as usize;
     let row = urls.get(number).ok_or(Event::PolicyPartnerAbove)?;
     let partner = row.as_ref().ok_or(Event::PolicyPartnerEmpty)?;
     if !partner.is_https() {
-        return Err(Event::PolicyPartnerHttp);
+        return Err(partner.clause(Event::PolicyPartnerHttp, Event::PolicyPartnerHttpEntry));
     }
-    if partner.host() != host {
-        return Err(Event::PolicyPartnerHost);
+    if partner.host() != http.host() {
+        return Err(partner.clause(Event::PolicyPartnerHost, Event::PolicyPartnerHostEntry));
     }
     Ok(number)
 }

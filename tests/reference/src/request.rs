@@ -1,5 +1,6 @@
 //! Requests that go out.
 
+use crate::entry;
 use crate::layout::*;
 use crate::policy::{CookieTag, Policy, Url};
 use crate::seen::{Event, Seen};
@@ -15,15 +16,20 @@ pub fn write_request(
     seen: &mut Seen,
 ) -> Vec<(usize, u32)> {
     let pending = state.pending[connection].expect("a request has an open connection");
-    let cookies = carried(policy, state, pending.url, seen);
+    let url = policy
+        .url(pending.url)
+        .expect("an open connection has a URL");
+    let cookies = carried(policy, state, url, seen);
     let map = pending.kind.request_map();
     let numbers = [pending.url as u8, connection as u8];
     if cookies.is_empty() {
         seen.note(Event::RequestPlain);
+        entry::note(url, Event::RequestPlainEntry, seen);
         output.push(map);
         output.extend(numbers);
     } else {
         seen.note(Event::RequestCookies);
+        entry::note(url, Event::RequestCookiesEntry, seen);
         output.push(map | BIT_COOKIES);
         output.extend(numbers);
         write_cookies(&cookies, output);
@@ -36,15 +42,15 @@ pub fn write_request(
 
 /// A request carries every present cookie of the URL's host whose readers
 /// hold the URL's message endpoint.
-fn carried(policy: &Policy, state: &State, number: usize, seen: &mut Seen) -> Vec<(usize, u32)> {
-    let url = policy.url(number).expect("an open connection has a URL");
+fn carried(policy: &Policy, state: &State, url: &Url, seen: &mut Seen) -> Vec<(usize, u32)> {
     let mut cookies = Vec::new();
     for key in 0..KEYS {
         let tag = policy.cookie(url.host(), key);
         match state.cookie(url.host(), key) {
             None => seen.note(Event::NotCarriedAbsent),
             Some(_) if !tag.readers.holds(url.message_endpoint()) => {
-                seen.note(Event::NotCarriedReaders)
+                seen.note(Event::NotCarriedReaders);
+                entry::note(url, Event::NotCarriedReadersEntry, seen);
             }
             Some(value) => {
                 note_carried(url, tag, seen);

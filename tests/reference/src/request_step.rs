@@ -1,6 +1,7 @@
 //! Both steps of a script that send a request ask the same of URL and
 //! connection, and open the connection alike: only the events differ.
 
+use crate::entry::{self, EntryEvents};
 use crate::seen::Event;
 use crate::upgrade::{self, Upgrade};
 
@@ -24,6 +25,8 @@ pub struct RequestStep {
     pub unreadable: Event,
     /// What came of a URL that was replaced.
     pub upgrade: Upgrade,
+    /// What came of an entry.
+    pub entry: EntryEvents,
 }
 
 /// Request a URL with a handler.
@@ -42,6 +45,7 @@ pub const SEND: RequestStep = RequestStep {
     same: Event::StepSendSame,
     unreadable: Event::CarriedUnreadable,
     upgrade: upgrade::SEND,
+    entry: entry::SEND,
 };
 
 /// Request a picture.
@@ -60,4 +64,5 @@ pub const PICTURE: RequestStep = RequestStep {
     same: Event::StepPictureSame,
     unreadable: Event::CarriedUnreadablePicture,
     upgrade: upgrade::PICTURE,
+    entry: entry::PICTURE,
 };

@@ -135,10 +135,10 @@ fn check_pending_url(number: usize, tag: &ConnectionTag, policy: &Policy) -> Res
     }
     let url = policy.url(number).ok_or(Event::StateUrlEmpty)?;
     if !tag.readers_fit(url) {
-        return Err(Event::StateUrlReaders);
+        return Err(url.clause(Event::StateUrlReaders, Event::StateUrlReadersEntry));
     }
     if !tag.writers_fit(url) {
-        return Err(Event::StateUrlWriters);
+        return Err(url.clause(Event::StateUrlWriters, Event::StateUrlWritersEntry));
     }
     Ok(())
 }

@@ -5,36 +5,20 @@
 //! and {0, 16}; connection 1 has every endpoint. Cookie (0,0) has 16 alone as reader and writer. What P leaves empty, a case may fill.
 
 mod common;
+#[path = "common/setup.rs"]
+mod setup;
 
 use common::{for_each_feed, walk_input, Session, FEEDS};
 use reference::layout::{
-    NO_PARTNER, OUTPUT_BYTES, POLICY_CONNECTIONS, POLICY_COOKIES, POLICY_HTTPS_HOSTS,
-    POLICY_PARTNERS, POLICY_WORDS, STATE_CONNECTIONS, STATE_PRESENT, STATE_WORDS, URLS,
+    NO_PARTNER, POLICY_COOKIES, POLICY_HTTPS_HOSTS, POLICY_PARTNERS, POLICY_WORDS,
+    STATE_CONNECTIONS, STATE_PRESENT, STATE_WORDS, URLS,
 };
-use reference::{feed_noting, Event, Seen};
+use reference::Event;
+use setup::{breaks, is_well_formed, list, open, set_connection, set_row, set_script, word, ALL};
 
-const ALL: u32 = u32::MAX;
 /// http and https at host 0, and http there alone.
 const HOST_0: u32 = 0x0001_0001;
 const HTTP_0: u32 = 0x0000_0001;
-
-fn set_row(session: &mut Session, row: usize, words: [u32; 3]) {
-    session.policy[3 * row..][..3].copy_from_slice(&words);
-}
-
-/// Readers, who are the script readers too, and writers of a connection.
-fn set_connection(session: &mut Session, connection: usize, readers: u32, writers: u32) {
-    let words = [readers, readers, writers];
-    session.policy[POLICY_CONNECTIONS + 3 * connection..][..3].copy_from_slice(&words);
-}
-
-fn list(session: &mut Session, hosts: u32, partners: &[(usize, u32)]) {
-    session.policy[POLICY_HTTPS_HOSTS] = hosts;
-    session.policy[POLICY_PARTNERS..].fill(NO_PARTNER);
-    for &(row, partner) in partners {
-        session.policy[POLICY_PARTNERS + row] = partner;
-    }
-}
 
 fn list_host_0(session: &mut Session) {
     list(session, 1, &[(3, 0)]);
@@ -63,43 +47,18 @@ fn sent(output: &[u8]) -> (u32, Vec<u8>) {
     (0, output.to_vec())
 }
 
-/// The word of a connection.
-fn word(session: &Session, connection: usize) -> u32 {
-    session.state[STATE_CONNECTIONS + connection]
-}
-
-fn open(session: &mut Session, connection: usize, word: u32) {
-    session.state[STATE_CONNECTIONS + connection] = word;
-}
-
 /// Gives cookie (0,0) the value 7.
 fn store_7(session: &mut Session) {
     session.state[0] = 7;
     session.state[STATE_PRESENT] |= 1;
 }
 
-/// Gives script 0 these steps.
-fn set_script(session: &mut Session, steps: &[[u8; 4]]) {
-    let bytes = steps.concat();
-    session.scripts.fill(0);
-    session.scripts[..bytes.len()].copy_from_slice(&bytes);
-}
-
 /// With host 0 listed, the record has this event.
 fn notes(session: &Session, record: &[u8], event: Event) {
-    let mut seen = Seen::new();
-    let mut policy = session.policy.clone();
-    policy[POLICY_HTTPS_HOSTS] = 1;
-    policy[POLICY_PARTNERS + 3] = 0;
-    feed_noting(
-        &policy,
-        &session.scripts,
-        &mut session.state.clone(),
-        record,
-        &mut [0; OUTPUT_BYTES],
-        &mut seen,
-    );
-    assert_eq!(seen.count(event), 1, "{record:02x?}: {}", event.name());
+    let mut listing = session.clone();
+    listing.policy[POLICY_HTTPS_HOSTS] = 1;
+    listing.policy[POLICY_PARTNERS + 3] = 0;
+    setup::notes(&listing, record, event);
 }
 
 // Loads.
@@ -711,29 +670,6 @@ fn an_origin_is_not_replaced() {
 
 // The policy.
 
-/// An empty record has 10 where the policy is well formed, and 2 where it is not.
-fn is_well_formed(session: &mut Session) -> bool {
-    match session.refuse(&[]) {
-        10 => true,
-        2 => false,
-        number => panic!("an empty record has {number}"),
-    }
-}
-
-/// Number 2, by this clause.
-fn breaks(policy: &[u32], clause: Event) {
-    let mut seen = Seen::new();
-    let (mut state, mut out) = ([0; STATE_WORDS], [0; OUTPUT_BYTES]);
-    let scripts = Session::new(reference::feed).scripts;
-    let answer = feed_noting(policy, &scripts, &mut state, &[], &mut out, &mut seen);
-    assert_eq!(
-        (answer.number, seen.count(clause)),
-        (2, 1),
-        "{}",
-        clause.name()
-    );
-}
-
 #[test]
 fn a_policy_has_every_word() {
     for_each_feed(|mut session| {
@@ -742,7 +678,7 @@ fn a_policy_has_every_word() {
         for length in [0, POLICY_HTTPS_HOSTS, POLICY_PARTNERS, POLICY_WORDS - 1] {
             session.policy.truncate(length);
             assert!(!is_well_formed(&mut session), "{length}");
-            breaks(&session.policy, Event::PolicyLength);
+            breaks(&session, Event::PolicyLength);
             session.policy = policy.clone();
         }
         assert!(is_well_formed(&mut session));
@@ -763,8 +699,8 @@ fn each_bit_of_the_https_hosts() {
                 "{bit}"
             );
             match bit {
-                0 | 1 => breaks(&session.policy, Event::PolicyPartnerMissing),
-                16.. => breaks(&session.policy, Event::PolicyHttpsHosts),
+                0 | 1 => breaks(&session, Event::PolicyPartnerMissing),
+                16.. => breaks(&session, Event::PolicyHttpsHosts),
                 _ => {}
             }
         }
@@ -803,7 +739,7 @@ fn the_partner_of_a_listed_http_row() {
         (2, Event::PolicyPartnerHost),
     ] {
         list(&mut session, 1, &[(3, partner)]);
-        breaks(&session.policy, clause);
+        breaks(&session, clause);
     }
 }
 
@@ -824,7 +760,7 @@ fn a_partner_past_the_rows() {
                 assert!(is_well_formed(&mut session));
                 list(&mut session, 1 << host, &[(3, 64)]);
                 assert!(!is_well_formed(&mut session), "{host}");
-                breaks(&session.policy, Event::PolicyPartnerAbove);
+                breaks(&session, Event::PolicyPartnerAbove);
             }
         }
         let past = URLS..POLICY_HTTPS_HOSTS / 3;
@@ -870,11 +806,11 @@ fn a_partner_where_there_must_be_none() {
         (63, 256 + 255, Event::PolicyPartnerOfEmpty),
     ] {
         list(&mut session, 1, &[(3, 0), (row, partner)]);
-        breaks(&session.policy, clause);
+        breaks(&session, clause);
     }
     for row in [4, 63] {
         list(&mut session, 0, &[(row, 256 + 255)]);
-        breaks(&session.policy, Event::PolicyPartnerOfEmpty);
+        breaks(&session, Event::PolicyPartnerOfEmpty);
     }
 }
 

@@ -4,33 +4,24 @@
 //! has every endpoint. Only cookie (0,0) can be stored, and connections 0 and 2 are the ones that store it.
 
 mod common;
+#[path = "common/setup.rs"]
+mod setup;
 
 use common::{for_each_feed, walk_input, Session, FEEDS};
 use reference::layout::{
-    OUTPUT_BYTES, POLICY_WORDS, SCRIPT_BYTES, STATE_CONNECTIONS, STATE_PRESENT, STATE_WORDS,
+    POLICY_WORDS, SCRIPT_BYTES, STATE_CONNECTIONS, STATE_PRESENT, STATE_WORDS,
 };
-use reference::{feed_noting, Event, Seen};
+use reference::Event;
+use setup::{notes, set_script, word};
 
 /// A picture of URL 0 on connection 0.
 const PICTURE_0_ON_0: [u8; 4] = [7, 0, 0, 0];
-
-/// Gives script 0 these steps.
-fn set_script(session: &mut Session, steps: &[[u8; 4]]) {
-    let bytes = steps.concat();
-    session.scripts.fill(0);
-    session.scripts[..bytes.len()].copy_from_slice(&bytes);
-}
 
 /// Loads the URL on the connection, and a document response runs these steps: its output and steps.
 fn run(session: &mut Session, url: u8, connection: u8, steps: &[[u8; 4]]) -> (Vec<u8>, u32) {
     set_script(session, steps);
     session.accept(&[0x03, url, connection]);
     session.accept(&[0x0B, url, connection, 0])
-}
-
-/// The word of a connection.
-fn word(session: &Session, connection: usize) -> u32 {
-    session.state[STATE_CONNECTIONS + connection]
 }
 
 /// The value of cookie (0,0), and the keys of host 0 that are present.
@@ -141,19 +132,10 @@ fn ends(page: u8, connection: u8, step: [u8; 4], why: Event) {
         assert_eq!(ended, (vec![], 1), "{name}: {step:?}");
         assert_eq!(session.state, [0; STATE_WORDS], "{name}: {step:?}");
     }
-    let mut seen = Seen::new();
     let mut session = Session::new(reference::feed);
     set_script(&mut session, &[step, after]);
     session.accept(&[0x03, page, connection]);
-    feed_noting(
-        &session.policy,
-        &session.scripts,
-        &mut session.state,
-        &[0x0B, page, connection, 0],
-        &mut [0; OUTPUT_BYTES],
-        &mut seen,
-    );
-    assert_eq!(seen.count(why), 1, "{step:?}: {}", why.name());
+    notes(&session, &[0x0B, page, connection, 0], why);
 }
 
 #[test]

@@ -22,6 +22,7 @@ pub fn for_each_feed(case: fn(Session)) {
 }
 
 /// A run of records from the empty state.
+#[derive(Clone)]
 pub struct Session {
     pub feed: Feed,
     pub policy: Vec<u32>,
