@@ -175,7 +175,7 @@ casesOfSearching =
     ∷ scriptAt 15 (sendPicture 17 4) 1 [] []
     ∷ scriptAt 15 (sendRequest 16 4 3) 2 (0x0b ∷ 0x10 ∷ 0x04 ∷ 0x03 ∷ []) (requesting 4 15 3 16 ∷ [])
     ∷ scriptAt 15 (sendPicture 16 4) 2 (0x43 ∷ 0x10 ∷ 0x04 ∷ []) (picturing 4 16 ∷ [])
-    -- and so do a script of the front page and the handler that it leaves.
+    -- and so does a script of the front page; the handler that it leaves does not lead to the page behind.
     ∷ scriptAt 16 (sendRequest 17 4 3) 1 [] []
     ∷ scriptAt 16 (sendPicture 17 4) 1 [] []
     ∷ scriptAt 16 (sendRequest 16 4 3) 2 (0x0b ∷ 0x10 ∷ 0x04 ∷ 0x03 ∷ []) (requesting 4 16 3 16 ∷ [])
