@@ -9,7 +9,7 @@ use Rattle.records.specs.declared.Direction.the-variants.{Input}
 use Rattle.records.specs.declared.Record.{Record}
 use Rattle.records.specs.Layout.{keyNumbers}
 use Rattle.records.specs.Codec.{decoded}
-use Rattle.machine.specs.Policy.{hostKeys, connections, cookieIndex, urlHost, isUrl, upgraded, isConnection, fits, maySend, loadReaders, loadWriters, redirectReaders, redirectWriters}
+use Rattle.machine.specs.Policy.{hostKeys, connections, cookieIndex, urlHost, isUrl, upgraded, isConnection, fits, maySend, fitReaders, fitWriters, redirectReaders, redirectWriters}
 use Rattle.machine.specs.Session.{presenceAt, cookieValue, connectionWord, free, documentKind, scriptKind, pictureKind, packed, kindOf, originOf, handlerOf, urlOf, kindSound, urlSound, Cookie, setCookie, storeCookie, storeCookies, setConnection, request, Effects, send}
 use Rattle.machine.specs.Scripts.{stepLimit, scriptAt, Step, end, constant, add, readCookie, writeCookie, sendRequest, skipIfZero, sendPicture, stepOf, stepAt, Progress, register, isScript, ended, goesOn, goesOnAfter, requested, step, stopped, followed, runFrom, startingWith, runScript}
 use Rattle.machine.specs.Machine.{Arrived, DocumentResponse, ScriptResponse, PictureResponse, Redirect, Event, Load, Arrival, eventIn, carriesNames, named, pending, ofKind, awaited, ofTarget, readersAllow, writersAllow, receive, perform}
@@ -179,7 +179,7 @@ module _ (p : List ℕ) (Q : ℕ → Type 0) (R : Record → Type 0) (laws : Kee
 
     perform-kept : (e : Event) → T (named p e) → T (awaited s e) → T (readersAllow p e) → T (writersAllow p e)
         → EventKeys e → EventCookies (λ (c : Cookie). Q (c .value)) e → EventValue Q e → EventAsks p e → Good p Q R stepLimit (perform p scripts s e)
-    unfolding perform named awaited readersAllow writersAllow loadReaders loadWriters kindSound urlSound fits
+    unfolding perform named awaited readersAllow writersAllow fitReaders fitWriters kindSound urlSound fits
     perform-kept (Load u n) a b c d keys values q asks =
         send-kept n documentKind 0 0 u stepLimit (lit≤ tt) (ltb→lt n connections (search parts)) (search joined) asks s good
     perform-kept (Arrival u n cs what) a b c d keys values q asks =

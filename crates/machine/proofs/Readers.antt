@@ -7,7 +7,7 @@ use Rattle.labels.specs.Sets.{holds, within, meets}
 use Rattle.labels.proofs.Below.{all-at}
 use Rattle.labels.proofs.Membership.{share-mono, share-member}
 use Rattle.labels.proofs.Words.{holds-below}
-use Rattle.machine.specs.Policy.{urlRows, connections, urlAddress, cookieIndex, urlReaders, cookieReaders, connectionReaders, scriptReaders, urlHost, urlMessage, urlEvent, emptyRow, rowWellFormed, connectionWellFormed, wellFormed, isUrl, mayStore, mayCarry, mayRead, mayWrite, maySend, loadReaders, redirectReaders}
+use Rattle.machine.specs.Policy.{urlRows, connections, urlAddress, cookieIndex, urlReaders, cookieReaders, connectionReaders, scriptReaders, urlHost, urlMessage, urlEvent, emptyRow, rowWellFormed, connectionWellFormed, wellFormed, isUrl, mayStore, mayCarry, mayRead, mayWrite, maySend, fitReaders, redirectReaders}
 use Rattle.machine.proofs.Observer.{Observer, Laws}
 
 unfoldable pub readers : ℕ → List ℕ → Observer
@@ -67,8 +67,8 @@ module _ (set : ℕ) (p : List ℕ) (good : T (wellFormed p)) where
   unfolding maySend
   sent n u m t = (search parts, search parts)
 
-  loaded : (n u : ℕ) → T (loadReaders p n u) → T (within (connectionReaders p n) (urlReaders p u))
-  unfolding loadReaders
+  loaded : (n u : ℕ) → T (fitReaders p n u) → T (within (connectionReaders p n) (urlReaders p u))
+  unfolding fitReaders
   loaded n u t = t
 
   redirected : (n t : ℕ) → T (redirectReaders p n t) → T (holds (connectionReaders p n) (urlEvent p t))

@@ -12,7 +12,7 @@ use Rattle.records.specs.declared.Record.{Record}
 use Rattle.records.specs.Bytes.{bit}
 use Rattle.records.specs.Layout.{keyNumbers, cookiesBit, load, documentResponse, scriptResponse, pictureResponse, longest}
 use Rattle.records.specs.Codec.{readRefusals, decoded, writeRun}
-use Rattle.machine.specs.Policy.{urlHost, wellFormed, isUrl, upgraded, isConnection, loadReaders, loadWriters, redirectReaders, redirectWriters}
+use Rattle.machine.specs.Policy.{urlHost, wellFormed, isUrl, upgraded, isConnection, fitReaders, fitWriters, redirectReaders, redirectWriters}
 use Rattle.machine.specs.Session.{free, documentKind, scriptKind, pictureKind, connectionWord, kindOf, originOf, handlerOf, urlOf, sound}
 use Rattle.machine.specs.Session.{has, Cookie, storeCookies, setConnection, Effects, send}
 use Rattle.machine.specs.Scripts.{stepLimit, tableBytes, isScript, stopped, runScript}
@@ -96,12 +96,12 @@ ofTarget test (Redirect t) = test t
 
 -- 8: the conditions on readers
 unfoldable pub readersAllow : List ℕ → Event → Bool
-readersAllow p (Load u n) = loadReaders p n u
+readersAllow p (Load u n) = fitReaders p n u
 readersAllow p (Arrival u n cs what) = ofTarget (redirectReaders p n) what
 
 -- 9: the conditions on writers
 unfoldable pub writersAllow : List ℕ → Event → Bool
-writersAllow p (Load u n) = loadWriters p n u
+writersAllow p (Load u n) = fitWriters p n u
 writersAllow p (Arrival u n cs what) = ofTarget (redirectWriters p n) what
 
 -- ---- the numbers

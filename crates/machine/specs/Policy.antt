@@ -147,9 +147,15 @@ upgraded p u = branch (ltb u urlRows && not (eqb (urlPartner p u) noPartner)) (u
 abbrev pub isConnection : ℕ → Bool
 isConnection n = ltb n connections
 
--- a connection fits a URL (002, T-LOAD)
+-- connection n fits URL u (002, T-LOAD): by readers, and by writers
+unfoldable pub fitReaders : List ℕ → ℕ → ℕ → Bool
+fitReaders p n u = within (connectionReaders p n) (urlReaders p u)
+
+unfoldable pub fitWriters : List ℕ → ℕ → ℕ → Bool
+fitWriters p n u = holds (connectionWriters p n) (urlMessage p u)
+
 unfoldable pub fits : List ℕ → ℕ → ℕ → Bool
-fits p n u = within (connectionReaders p n) (urlReaders p u) && holds (connectionWriters p n) (urlMessage p u)
+fits p n u = fitReaders p n u && fitWriters p n u
 
 -- a cookie that a response or redirect on connection n delivers is stored
 unfoldable pub mayStore : List ℕ → ℕ → ℕ → Bool
@@ -182,16 +188,9 @@ maySend p n u m =
     && (within (connectionWriters p n) (connectionWriters p m)
     && mayReach p (connectionWriters p n) u)))
 
--- what 8 and 9 ask of a load of u on connection n, each in the order of its conditions
-unfoldable pub loadReaders : List ℕ → ℕ → ℕ → Bool
-loadReaders p n u = within (connectionReaders p n) (urlReaders p u)
-
-unfoldable pub loadWriters : List ℕ → ℕ → ℕ → Bool
-loadWriters p n u = holds (connectionWriters p n) (urlMessage p u)
-
--- and of a redirect of connection n to t
+-- Of a load of u on connection n 8 and 9 ask whether n fits u. Of a redirect of connection n to t they ask, each in the order of its conditions:
 unfoldable pub redirectReaders : List ℕ → ℕ → ℕ → Bool
-redirectReaders p n t = holds (connectionReaders p n) (urlEvent p t) && within (connectionReaders p n) (urlReaders p t)
+redirectReaders p n t = holds (connectionReaders p n) (urlEvent p t) && fitReaders p n t
 
 unfoldable pub redirectWriters : List ℕ → ℕ → ℕ → Bool
-redirectWriters p n t = holds (connectionWriters p n) (urlMessage p t) && mayReach p (connectionWriters p n) t
+redirectWriters p n t = fitWriters p n t && mayReach p (connectionWriters p n) t

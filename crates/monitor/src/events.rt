@@ -21,9 +21,9 @@ use super::answers::NOT_AWAITED;
 use super::answers::READERS_FORBID;
 use super::answers::WRITERS_FORBID;
 use super::answers::refused;
+use policy::fit_readers;
+use policy::fit_writers;
 use policy::is_url;
-use policy::load_readers;
-use policy::load_writers;
 use policy::redirect_readers;
 use policy::redirect_writers;
 use policy::url_host;
@@ -86,10 +86,10 @@ pub fn load(
     if !is_named(policy, url, connection) {
         return refused(NAME_UNKNOWN);
     }
-    if !load_readers(policy, connection, url) {
+    if !fit_readers(policy, connection, url) {
         return refused(READERS_FORBID);
     }
-    if !load_writers(policy, connection, url) {
+    if !fit_writers(policy, connection, url) {
         return refused(WRITERS_FORBID);
     }
     let pending = Pending::bare(DOCUMENT, url);

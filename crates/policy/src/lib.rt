@@ -6,8 +6,8 @@ ghost use Prim.Native.Nat.{_<_};
 ghost use Rattle.labels.specs.Addresses.{hosts};
 ghost use Rattle.labels.specs.Sets.{holds};
 ghost use Rattle.machine.specs.Policy.{hostKeys, connections, cookieIndex, urlHost, urlMessage, urlEvent, isUrl, upgraded};
-ghost use Rattle.machine.specs.Policy.{fits, mayStore, mayCarry, mayRead, mayWrite, mayReach, maySend};
-ghost use Rattle.machine.specs.Policy.{loadReaders, loadWriters, redirectReaders, redirectWriters};
+ghost use Rattle.machine.specs.Policy.{fitReaders, fitWriters, fits, mayStore, mayCarry, mayRead, mayWrite, mayReach, maySend};
+ghost use Rattle.machine.specs.Policy.{redirectReaders, redirectWriters};
 ghost use Rattle.machine.specs.Session.{keyMap};
 ghost use Rattle.policy.specs.Given.{WellFormed, Url};
 
@@ -81,13 +81,26 @@ fn event_in(policy: &[u32], url: usize, set: EndpointSet) -> bool
     event_set(url_address(policy, url)).within(set)
 }
 
-// 002, T-LOAD.
+// 002, T-LOAD: a connection fits a URL, by readers and by writers.
+pub fn fit_readers(policy: &[u32], connection: usize, url: usize) -> bool
+    requires { ⌜ WellFormed (now policy) × (connection < connections) × Url (now policy) url ⌝ }
+    ensures { λ r. ⌜ r ≡ fitReaders (now (policy .entry)) connection url ⌝ }
+{
+    connection_readers(policy, connection).within(url_readers(policy, url))
+}
+
+pub fn fit_writers(policy: &[u32], connection: usize, url: usize) -> bool
+    requires { ⌜ WellFormed (now policy) × (connection < connections) × Url (now policy) url ⌝ }
+    ensures { λ r. ⌜ r ≡ fitWriters (now (policy .entry)) connection url ⌝ }
+{
+    message_in(policy, url, connection_writers(policy, connection))
+}
+
 pub fn fits(policy: &[u32], connection: usize, url: usize) -> bool
     requires { ⌜ WellFormed (now policy) × (connection < connections) × Url (now policy) url ⌝ }
     ensures { λ r. ⌜ r ≡ fits (now (policy .entry)) connection url ⌝ }
 {
-    connection_readers(policy, connection).within(url_readers(policy, url))
-        & message_in(policy, url, connection_writers(policy, connection))
+    fit_readers(policy, connection, url) & fit_writers(policy, connection, url)
 }
 
 // The keys of the cookies that a request to a URL may carry, bit k for key k: their readers hold the URL's message endpoint.
@@ -153,34 +166,19 @@ pub fn may_send(policy: &[u32], connection: usize, url: usize, via: usize) -> bo
         & may_reach(policy, writers, url)
 }
 
-// Refusals 8 and 9 of a load.
-pub fn load_readers(policy: &[u32], connection: usize, url: usize) -> bool
-    requires { ⌜ WellFormed (now policy) × (connection < connections) × Url (now policy) url ⌝ }
-    ensures { λ r. ⌜ r ≡ loadReaders (now (policy .entry)) connection url ⌝ }
-{
-    connection_readers(policy, connection).within(url_readers(policy, url))
-}
-
-pub fn load_writers(policy: &[u32], connection: usize, url: usize) -> bool
-    requires { ⌜ WellFormed (now policy) × (connection < connections) × Url (now policy) url ⌝ }
-    ensures { λ r. ⌜ r ≡ loadWriters (now (policy .entry)) connection url ⌝ }
-{
-    message_in(policy, url, connection_writers(policy, connection))
-}
-
-// Refusals 8 and 9 of a redirect to a target.
+// What 8 and 9 ask of a redirect to a target.
 pub fn redirect_readers(policy: &[u32], connection: usize, target: usize) -> bool
     requires { ⌜ WellFormed (now policy) × (connection < connections) × Url (now policy) target ⌝ }
     ensures { λ r. ⌜ r ≡ redirectReaders (now (policy .entry)) connection target ⌝ }
 {
-    let readers = connection_readers(policy, connection);
-    event_in(policy, target, readers) & readers.within(url_readers(policy, target))
+    event_in(policy, target, connection_readers(policy, connection))
+        & fit_readers(policy, connection, target)
 }
 
 pub fn redirect_writers(policy: &[u32], connection: usize, target: usize) -> bool
     requires { ⌜ WellFormed (now policy) × (connection < connections) × Url (now policy) target ⌝ }
     ensures { λ r. ⌜ r ≡ redirectWriters (now (policy .entry)) connection target ⌝ }
 {
-    let writers = connection_writers(policy, connection);
-    message_in(policy, target, writers) & may_reach(policy, writers, target)
+    fit_writers(policy, connection, target)
+        & may_reach(policy, connection_writers(policy, connection), target)
 }

@@ -6,8 +6,7 @@ use Rattle.policy.proofs.fits.Tie as tie
 
 returns : tie.Need-returns
 unfolding fits
-returns c = rw (c .before .before .within .ensures, c .message-in .ensures, c .before .before .before .before .connection-readers .ensures, c .before .before .before .url-readers .ensures, c .before .connection-writers .ensures)
+returns c = rw (c .before .fit-readers .ensures, c .fit-writers .ensures)
 
 pub fits-spec : {M : Type 1} → statement M
-fits-spec =
-    tie.close (tie.spec (λ c κs. search needs) (λ c κs. search needs) (λ c κs. search needs) (λ c κs. search needs) (λ c κs. search needs) returns)
+fits-spec = tie.close (tie.spec (λ c κs. search needs) (λ c κs. search needs) returns)

@@ -6,8 +6,7 @@ use Rattle.policy.proofs.redirect_readers.Tie as tie
 
 returns : tie.Need-returns
 unfolding redirectReaders
-returns c = rw (c .before .before .event-in .ensures, c .within .ensures, c .before .before .before .connection-readers .ensures, c .before .url-readers .ensures)
+returns c = rw (c .before .event-in .ensures, c .fit-readers .ensures, c .before .before .connection-readers .ensures)
 
 pub redirect-readers-spec : {M : Type 1} → statement M
-redirect-readers-spec =
-    tie.close (tie.spec (λ c κs. search needs) (λ c κs. search needs) (λ c κs. search needs) (λ c κs. search needs) returns)
+redirect-readers-spec = tie.close (tie.spec (λ c κs. search needs) (λ c κs. search needs) (λ c κs. search needs) returns)

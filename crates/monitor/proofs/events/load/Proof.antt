@@ -13,10 +13,10 @@ use Rattle.monitor.proofs.events.load.Tie as tie
 abbrev start : tie.After-is-named → tie.Start
 start m = m .before .before .before .before
 
-abbrev first : tie.After-load-readers → tie.After-is-named
+abbrev first : tie.After-fit-readers → tie.After-is-named
 first m = m .before .before
 
-abbrev second : tie.After-load-writers → tie.After-load-readers
+abbrev second : tie.After-fit-writers → tie.After-fit-readers
 second m = m .before .before
 
 abbrev event : tie.After-is-named → Event
@@ -34,7 +34,7 @@ readers-passed : (m : tie.Else2) → (let f = first (m .before) in NoneOf (take 
 unfolding readersAllow
 readers-passed m =
     let (names, (waits, _)) = named-passed (m .before .before) in
-    (names, (waits, (ap not (sym (m .before .load-readers .ensures) ∙ not-false (m .before .load-readers .result) (m .if2 .left)), tt)))
+    (names, (waits, (ap not (sym (m .before .fit-readers .ensures) ∙ not-false (m .before .fit-readers .result) (m .if2 .left)), tt)))
 
 -- ---- the returns
 
@@ -46,8 +46,8 @@ returns c scripts =
     refused-by (now (a .policy)) scripts (now (a .state)) (now (a .out)) (event m) 0 (c .refused .result) tt
     (ap not (sym (m .is-named .ensures .0) ∙ not-true (m .is-named .result) (c .before .if1 .taken))) tt (c .refused .ensures)
 
-load-readers-requires : tie.Need-load-readers-requires
-load-readers-requires c κs = let given = c .before .is-named .ensures .1 (is-named c) in search needs
+fit-readers-requires : tie.Need-fit-readers-requires
+fit-readers-requires c κs = let given = c .before .is-named .ensures .1 (is-named c) in search needs
 
 returns-2 : tie.Need-returns-2
 unfolding readersAllow
@@ -55,10 +55,10 @@ returns-2 c scripts =
     let m = c .before .before in
     let a = start (first m) .args in
     refused-by (now (a .policy)) scripts (now (a .state)) (now (a .out)) (event (first m)) 2 (c .refused2 .result) (named-passed (m .before))
-    (ap not (sym (m .load-readers .ensures) ∙ not-true (m .load-readers .result) (c .before .if2 .taken))) tt (c .refused2 .ensures)
+    (ap not (sym (m .fit-readers .ensures) ∙ not-true (m .fit-readers .result) (c .before .if2 .taken))) tt (c .refused2 .ensures)
 
-load-writers-requires : tie.Need-load-writers-requires
-load-writers-requires c κs = let given = first (c .before) .is-named .ensures .1 (is-named (c .before .before)) in search needs
+fit-writers-requires : tie.Need-fit-writers-requires
+fit-writers-requires c κs = let given = first (c .before) .is-named .ensures .1 (is-named (c .before .before)) in search needs
 
 returns-3 : tie.Need-returns-3
 unfolding writersAllow
@@ -67,7 +67,7 @@ returns-3 c scripts =
     let f = first (second m) in
     let a = start f .args in
     refused-by (now (a .policy)) scripts (now (a .state)) (now (a .out)) (event f) 3 (c .refused3 .result) (readers-passed (m .before))
-    (ap not (sym (m .load-writers .ensures) ∙ not-true (m .load-writers .result) (c .before .if3 .taken))) tt (c .refused3 .ensures)
+    (ap not (sym (m .fit-writers .ensures) ∙ not-true (m .fit-writers .result) (c .before .if3 .taken))) tt (c .refused3 .ensures)
 
 send-requires : tie.Need-send-requires
 send-requires c κs =
@@ -89,10 +89,10 @@ returns-4 c scripts =
     let (names, (waits, (readers, _))) = readers-passed (m .before) in
     let (kind, origin, handler, url) = made .bare .ensures in
     performed (now (a .policy)) scripts (now (a .state)) (now (a .out)) (event f) _
-    (names, (waits, (readers, (ap not (sym (m .load-writers .ensures) ∙ not-false (m .load-writers .result) (third .if3 .left)), tt))))
+    (names, (waits, (readers, (ap not (sym (m .fit-writers .ensures) ∙ not-false (m .fit-writers .result) (third .if3 .left)), tt))))
     (sent-done (now (a .policy)) (now (a .state)) (a .connection) documentKind 0 0 (a .url) _ _ (now (a .out)) _
     (rw (kind, origin, handler, url) at (call .send .ensures .0)) (rw (kind, handler, url) at (call .send .ensures .1)))
 
 pub load-spec : {M : Type 1} → statement M
 load-spec =
-    tie.close (tie.spec (λ c κs. search needs) (λ c κs. search needs) returns load-readers-requires (λ c κs. search needs) returns-2 load-writers-requires (λ c κs. search needs) returns-3 (λ c κs. search needs) send-requires (λ c. search needs) (λ c. search needs) returns-4)
+    tie.close (tie.spec (λ c κs. search needs) (λ c κs. search needs) returns fit-readers-requires (λ c κs. search needs) returns-2 fit-writers-requires (λ c κs. search needs) returns-3 (λ c κs. search needs) send-requires (λ c. search needs) (λ c. search needs) returns-4)
