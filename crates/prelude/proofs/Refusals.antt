@@ -2,7 +2,7 @@
 use Rattle.prelude.proofs.Kit.{ℕ, suc, zero, true, _&&_, Bool, false, not, true≢false, cond, List, _∷_, [], _++_, _≡_, sym, refl, ap}
 use Rattle.prelude.proofs.Kit.{subst, T, eqb, ltb, eqb·suc-zero, take, getD, and-r, and-l}
 use Rattle.prelude.specs.Choice.{branch}
-use Rattle.prelude.specs.Refusals.{accepted, Refusal, refuse, firstOf}
+use Rattle.prelude.specs.Refusals.{accepted, Refusal, refuse, firstOf, answering}
 
 abbrev pub NoneOf : {A : Type 0} → List (Refusal A) → Type 0
 NoneOf [] = Unit {0}
@@ -30,6 +30,30 @@ module _ {A : Type 0} (x : A) where
   in-a-row [] qs = refl
   in-a-row (r ∷ rs) qs = ap (branch (r .applies) (r .answer)) (in-a-row rs qs)
 
+-- what holds of each answer where it is the first that applies, and of the other where none does, holds of the one that is given
+abbrev pub Whichever : {A : Type 0} → (A → Type 0) → List (Refusal A) → A → Type 0
+Whichever P [] x = P x
+Whichever P (r ∷ rs) x = (r .applies ≡ true → P (r .answer)) × (r .applies ≡ false → Whichever P rs x)
+
+pub first-has : {A : Type 0} (P : A → Type 0) (rs : List (Refusal A)) (x : A) → Whichever P rs x → P (firstOf rs x)
+unfolding firstOf branch
+first-has P [] x h = h
+first-has P (r ∷ rs) x h = go (r .applies) (h .0) (λ e. first-has P rs x (h .1 e))
+  where
+    go : (b : Bool) → (b ≡ true → P (r .answer)) → (b ≡ false → P (firstOf rs x)) → P (branch b (r .answer) (firstOf rs x))
+    go true f g = f refl
+    go false f g = g refl
+
+-- answers told in another way are told of the one that is first
+pub told-first : {A B : Type 0} (f : A → B) (rs : List (Refusal A)) (x : A) → f (firstOf rs x) ≡ firstOf (answering f rs) (f x)
+unfolding firstOf branch
+told-first f [] x = refl
+told-first f (r ∷ rs) x = go (r .applies) (told-first f rs x)
+  where
+    go : (b : Bool) → f (firstOf rs x) ≡ firstOf (answering f rs) (f x) → f (branch b (r .answer) (firstOf rs x)) ≡ branch b (f (r .answer)) (firstOf (answering f rs) (f x))
+    go true e = refl
+    go false e = e
+
 -- ---- numbers
 
 -- none of the numbers is that of what is accepted
@@ -50,14 +74,14 @@ accepted-on (r ∷ rs) y t =
     go true (suc n) l rest = rw (eqb·suc-zero n)
     go false n l rest = rest
 
--- what it refuses it refuses whatever follows
-pub refused-on : (rs : List (Refusal ℕ)) (y : ℕ) → (firstOf rs accepted ≡ accepted → ⊥) → firstOf rs y ≡ firstOf rs accepted
+-- what it refuses it refuses whatever follows, and however its numbers are told
+pub refused-on : {A : Type 0} (f : ℕ → A) (rs : List (Refusal ℕ)) (y : A) → (firstOf rs accepted ≡ accepted → ⊥) → firstOf (answering f rs) y ≡ f (firstOf rs accepted)
 unfolding firstOf branch
-refused-on [] y other = absurd (other refl)
-refused-on (r ∷ rs) y other = go (r .applies) other (refused-on rs y)
+refused-on f [] y other = absurd (other refl)
+refused-on f (r ∷ rs) y other = go (r .applies) other (refused-on f rs y)
   where
-    go : (b : Bool) → (branch b (r .answer) (firstOf rs accepted) ≡ accepted → ⊥) → ((firstOf rs accepted ≡ accepted → ⊥) → firstOf rs y ≡ firstOf rs accepted)
-        → branch b (r .answer) (firstOf rs y) ≡ branch b (r .answer) (firstOf rs accepted)
+    go : (b : Bool) → (branch b (r .answer) (firstOf rs accepted) ≡ accepted → ⊥) → ((firstOf rs accepted ≡ accepted → ⊥) → firstOf (answering f rs) y ≡ f (firstOf rs accepted))
+        → branch b (f (r .answer)) (firstOf (answering f rs) y) ≡ f (branch b (r .answer) (firstOf rs accepted))
     go true other rest = refl
     go false other rest = rest other
 

@@ -1,7 +1,7 @@
 -- Refusals: tests in their order, each with what is answered where it is the first that applies.
 use Prim.Native.Nat.{ℕ}
 use mathlib.Core.Bool.{Bool}
-use mathlib.Core.List.{List, [], _∷_}
+use mathlib.Core.List.{List, [], _∷_, map}
 use Rattle.prelude.specs.Choice.{branch}
 
 -- the number of what nothing refuses
@@ -19,3 +19,7 @@ refuse answer test = record { answer = answer; applies = test }
 unfoldable pub firstOf : {A : Type 0} → List (Refusal A) → A → A
 firstOf [] otherwise = otherwise
 firstOf (r ∷ rs) otherwise = branch (r .applies) (r .answer) (firstOf rs otherwise)
+
+-- the same tests, their answers told in another way
+abbrev pub answering : {A B : Type 0} → (A → B) → List (Refusal A) → List (Refusal B)
+answering f rs = map (λ r. refuse (f (r .answer)) (r .applies)) rs

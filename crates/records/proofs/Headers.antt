@@ -38,7 +38,7 @@ module _ (d : Direction) (bytes : List ℕ) where
   refuses ne =
       let other : firstOf (mapRefusals d bytes) accepted ≡ accepted → ⊥ = λ e. ne (number-is ∙ e) in
       let same : firstOf (readRefusals d bytes) accepted ≡ firstOf (mapRefusals d bytes) accepted =
-      in-a-row accepted (mapRefusals d bytes) (drop 2 (readRefusals d bytes)) ∙ refused-on (mapRefusals d bytes) (firstOf (drop 2 (readRefusals d bytes)) accepted) other in
+      in-a-row accepted (mapRefusals d bytes) (drop 2 (readRefusals d bytes)) ∙ refused-on (λ n. n) (mapRefusals d bytes) (firstOf (drop 2 (readRefusals d bytes)) accepted) other in
       rw (number-is, same, ne-eqb (firstOf (mapRefusals d bytes) accepted) accepted other)
 
   -- and where they refuse nothing the header has them
