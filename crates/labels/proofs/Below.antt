@@ -1,10 +1,12 @@
--- Tests: "or", tests that pass alike, and the bounded tests "all below" and "any below", each turned into what it says of every number, or of one, and back.
+-- Tests: "or", tests that pass alike, and the bounded tests "all below", "any below" and "find below", each turned into what it says of every
+-- number, or of one, and back.
 use Rattle.prelude.proofs.Kit.{ℕ, _≤_, _<_, _+_, suc, zero, add-zero, le-of-suc-le-suc, not-suc-le-zero, add-one, arith, true, _&&_, Bool}
-use Rattle.prelude.proofs.Kit.{false, _||_, and-assoc, and-true, ⊎-elim, _≡_, sym, refl, subst, T, and-i, and-r, and-l}
+use Rattle.prelude.proofs.Kit.{false, not, _||_, and-assoc, and-true, ⊎-elim, _≡_, sym, refl, subst, T, and-i, and-r, and-l}
 use native.Mathlib.Nat.{add-suc, le-refl, le-step, eq-or-lt-of-le}
 use mathlib.Core.Bool.{and-comm}
 use mathlib.Core.Logic.{_⊎_, inl, inr}
-use Rattle.labels.specs.Membership.{allBelow, anyBelow}
+use Rattle.prelude.proofs.Choices.{either, is-true, is-false}
+use Rattle.labels.specs.Membership.{allBelow, anyBelow, findBelow}
 
 pub or-cases : (x y : Bool) → T (x || y) → T x ⊎ T y
 or-cases true y t = inl tt
@@ -108,3 +110,16 @@ any-at (suc n) test t =
     ⊎-elim (λ here. (n, le-refl (suc n), here))
     (λ below. let w = any-at n test below in (w .0, le-step (w .1), w .2))
     (or-cases (test n) (anyBelow n test) t)
+
+-- no number passes, or the one that is found does
+pub found : (n : ℕ) (test : ℕ → Bool) (none : ℕ)
+    → (((a : ℕ) → a < n → T (not (test a))) × (findBelow n test none ≡ none)) ⊎ ((findBelow n test none < n) × T (test (findBelow n test none)))
+unfolding findBelow
+found zero test none = inl ((λ a l. absurd (not-suc-le-zero l)), refl)
+found (suc n) test none =
+    ⊎-elim (λ t. inr (rw (is-true (test n) t) (le-refl (suc n), t)))
+    (λ t. rw (is-false (test n) t) (⊎-elim
+    (λ below. inl ((λ a l. ⊎-elim (λ e. subst (λ (k : ℕ). T (not (test k))) (sym e) t) (below .0 a) (eq-or-lt-of-le (le-of-suc-le-suc l))), below .1))
+    (λ below. inr (le-step (below .0), below .1))
+    (found n test none)))
+    (either (test n))

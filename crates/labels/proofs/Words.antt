@@ -1,18 +1,19 @@
 -- The laws of sets that are words: bits against membership, and the empty set, all endpoints and singletons.
-use Rattle.prelude.proofs.Kit.{ℕ, _<_, suc, _^_, zero, _%_, _/_, zero-lt-suc, div-one, add-one, arith, true, Bool, false, _≡_, sym, _∙_}
-use Rattle.prelude.proofs.Kit.{refl, ap, subst, T, eqb, ltb, eqb→eq, ltb→lt, lt→ltb, and-i, and-r, and-l}
+use Rattle.prelude.proofs.Kit.{ℕ, _<_, _≤_, _-_, suc, _^_, zero, _%_, _/_, zero-lt-suc, div-one, add-one, arith, true, Bool, false, not, ⊎-elim, _≡_, sym, _∙_}
+use Rattle.prelude.proofs.Kit.{refl, ap, subst, T, T-not, not-T, eqb, ltb, eqb→eq, ltb→lt, lt→ltb, and-i, and-r, and-l, le-of-suc-le-suc, not-suc-le-zero}
 use Prim.Native.Nat.{min, suc-le-suc}
-use native.Mathlib.Nat.{zero-div}
+use native.Mathlib.Nat.{zero-div, pow-suc}
 use mathlib.Core.Bool.{Bool·beq}
-use lib.Dec.{eqb-refl}
 use lib.Arith.{lt-one}
 use lib.Pow.{shr-lt}
-use lib.Bits.{bitAnd, and-step, and-shr, and-zero-l, and-zero-r}
+use lib.Bits.{bitAnd, and-step, and-shr}
+use lib.Count.{trailingZeros}
 use Rattle.prelude.proofs.Bits.{half-bit}
-use Rattle.labels.specs.Membership.{endpoints, allBelow}
-use Rattle.labels.specs.Sets.{holds, within, empty, all, only}
+use Rattle.prelude.proofs.Choices.{either}
+use Rattle.labels.specs.Membership.{endpoints, allBelow, isMissing, isLowestMissing, noneMissing}
+use Rattle.labels.specs.Sets.{holds, within, missing, unheld, empty, all, only}
 use Rattle.labels.proofs.Below.{all-at, same}
-use Rattle.labels.proofs.Membership.{Bounded, holds-subset, subset-member, one-subset}
+use Rattle.labels.proofs.Membership.{Bounded, subset-holds, holds-subset, told, one-missing}
 
 -- what a set holds is an endpoint
 pub holds-below : (s : ℕ) → Bounded (holds s)
@@ -27,39 +28,73 @@ of-bit : (s a : ℕ) → a < endpoints → s / 2 ^ a % 2 ≡ 1 → T (holds s a)
 unfolding holds
 of-bit s a l e = and-i (ltb a endpoints) (eqb (s / 2 ^ a % 2) 1) (lt→ltb a endpoints l) (subst (λ (x : ℕ). T (eqb x 1)) (sym e) tt)
 
--- s & t = s just where each bit of s is one of t
-and-bits : (s t : ℕ) → bitAnd s t ≡ s → (a : ℕ) → s / 2 ^ a % 2 ≡ 1 → t / 2 ^ a % 2 ≡ 1
-and-bits s t e a h =
+-- a bit that is not 1 is 0
+unheld-bit : (t a : ℕ) → a < endpoints → T (not (holds t a)) → t / 2 ^ a % 2 ≡ 0
+unheld-bit t a l n = not-one (t / 2 ^ a % 2) (omega arith) (λ e. T-not (holds t a) n (of-bit t a l e))
+  where
+    not-one : (x : ℕ) → x < 2 → (x ≡ 1 → ⊥) → x ≡ 0
+    not-one zero l f = refl
+    not-one (suc zero) l f = absurd (f refl)
+    not-one (suc (suc x)) l f = absurd (omega arith)
+
+-- ---- s & !t is what is left over: its bits are the endpoints of s that are missing in t
+
+-- the bits of !t are those that t lacks
+flipped : (n t a : ℕ) → t < 2 ^ n → a < n → (2 ^ n - 1 - t) / 2 ^ a % 2 ≡ 1 - t / 2 ^ a % 2
+flipped zero t a l k = absurd (not-suc-le-zero k)
+flipped (suc n) t zero l k = rw (div-one, div-one) (omega (arith, pow-suc 2 n, l))
+flipped (suc n) t (suc a) l k =
+    let half : (2 ^ suc n - 1 - t) / 2 ≡ 2 ^ n - 1 - t / 2 = omega (arith, pow-suc 2 n, l) in
+    sym (half-bit (2 ^ suc n - 1 - t) a) ∙ ap (λ (x : ℕ). x / 2 ^ a % 2) half
+    ∙ flipped n (t / 2) a (shr-lt n 1 (rw add-one l)) (le-of-suc-le-suc k) ∙ ap (λ (x : ℕ). 1 - x) (half-bit t a)
+
+abbrev leftOver : ℕ → ℕ → ℕ
+leftOver s t = bitAnd s (2 ^ 32 - 1 - t)
+
+left-bit : (s t a : ℕ) → t < 2 ^ 32 → a < endpoints → leftOver s t / 2 ^ a % 2 ≡ min (s / 2 ^ a % 2) (1 - t / 2 ^ a % 2)
+left-bit s t a l k =
     let x = s / 2 ^ a in
-    let y = t / 2 ^ a in
-    let same : bitAnd x y ≡ x = sym (and-shr s t a) ∙ ap (λ (z : ℕ). z / 2 ^ a) e in
-    omega (arith, and-step x y, same)
+    let y = (2 ^ 32 - 1 - t) / 2 ^ a in
+    let low : bitAnd x y % 2 ≡ min (x % 2) (y % 2) = omega (arith, and-step x y) in
+    rw (and-shr s (2 ^ 32 - 1 - t) a) (low ∙ ap (min (x % 2)) (flipped 32 t a l k))
 
-lowest : (x y : ℕ) → (x ≡ 1 → y ≡ 1) → x < 2 → min x y ≡ x
-lowest zero y f l = omega arith
-lowest (suc zero) y f l = omega (arith, f refl)
-lowest (suc (suc x)) y f l = absurd (omega arith)
+left-missing : (s t a : ℕ) → t < 2 ^ 32 → a < endpoints → T (isMissing (holds s) (holds t) a) → leftOver s t / 2 ^ a % 2 ≡ 1
+left-missing s t a l k m =
+    left-bit s t a l k ∙ rw (bit-of s a (and-l (holds s a) (not (holds t a)) m), unheld-bit t a k (and-r (holds s a) (not (holds t a)) m)) refl
 
-bits-and : (n s t : ℕ) → s < 2 ^ n → ((a : ℕ) → a < n → s / 2 ^ a % 2 ≡ 1 → t / 2 ^ a % 2 ≡ 1) → bitAnd s t ≡ s
-bits-and zero s t l f = rw (lt-one l) (and-zero-l t)
-bits-and (suc n) s t l f =
-    let rest : bitAnd (s / 2) (t / 2) ≡ s / 2 =
-    bits-and n (s / 2) (t / 2) (shr-lt n 1 (rw add-one l))
-    (λ a k h. half-bit t a ∙ f (suc a) (suc-le-suc k) (sym (half-bit s a) ∙ h)) in
-    let low : min (s % 2) (t % 2) ≡ s % 2 =
-    lowest (s % 2) (t % 2) (λ h. rw (← div-one t) (f zero (zero-lt-suc n) (rw div-one h))) (omega arith) in
-    omega (arith, and-step s t, rest, low)
+left-not : (s t a : ℕ) → t < 2 ^ 32 → a < endpoints → T (not (isMissing (holds s) (holds t) a)) → leftOver s t / 2 ^ a % 2 ≡ 0
+left-not s t a l k n =
+    ⊎-elim (λ h. left-bit s t a l k ∙ rw (bit-of t a h) (omega arith))
+    (λ h. left-bit s t a l k ∙ rw (unheld-bit s a k (not-T (holds s a) (λ m. T-not (isMissing (holds s) (holds t) a) n (and-i (holds s a) (not (holds t a)) m h)))) (omega arith))
+    (either (holds t a))
 
--- the test of the code
-pub within-and : (s t : ℕ) → s < 2 ^ 32 → eqb (bitAnd s t) s ≡ within s t
-within-and s t l =
-    same (eqb (bitAnd s t) s) (within s t)
-    (λ e. holds-subset (holds s) (holds t) (λ a k h. of-bit t a k (and-bits s t (eqb→eq (bitAnd s t) s e) a (bit-of s a h))))
-    (λ w. rw (bits-and endpoints s t l (λ a k h. bit-of t a (subset-member (holds s) (holds t) (holds-below s) w a (of-bit s a k h)))) (eqb-refl s))
+-- ---- the zeros below the lowest bit of a word
 
--- only the empty set, which the code has as 0, is within the empty set
-pub within-none : (s : ℕ) → s < 2 ^ 32 → within s 0 ≡ eqb s 0
-within-none s l = sym (within-and s 0 l) ∙ rw (and-zero-r s) (same (eqb 0 s) (eqb s 0) (λ t. rw (eqb→eq 0 s t) (eqb-refl s)) (λ t. rw (eqb→eq s 0 t) tt))
+zeros-below : (n x a : ℕ) → a < n → x / 2 ^ a % 2 ≡ 1 → ((b : ℕ) → b < a → x / 2 ^ b % 2 ≡ 0) → trailingZeros n x ≡ a
+unfolding trailingZeros
+zeros-below zero x a l e f = absurd (not-suc-le-zero l)
+zeros-below (suc n) x zero l e f = rw (rw div-one at e)
+zeros-below (suc n) x (suc a) l e f =
+    rw (rw div-one at (f zero (zero-lt-suc a)))
+    (ap suc (zeros-below n (x / 2) a (le-of-suc-le-suc l) (half-bit x a ∙ e) (λ b k. half-bit x b ∙ f (suc b) (suc-le-suc k))))
+
+zeros-all : (n x : ℕ) → ((b : ℕ) → b < n → x / 2 ^ b % 2 ≡ 0) → trailingZeros n x ≡ n
+unfolding trailingZeros
+zeros-all zero x f = refl
+zeros-all (suc n) x f = rw (rw div-one at (f zero (zero-lt-suc n))) (ap suc (zeros-all n (x / 2) (λ b k. half-bit x b ∙ f (suc b) (suc-le-suc k))))
+
+-- the question of the code
+pub zeros-missing : (s t : ℕ) → t < 2 ^ 32 → trailingZeros 32 (leftOver s t) ≡ missing s t
+unfolding isLowestMissing
+zeros-missing s t l =
+    ⊎-elim (λ none. zeros-all 32 (leftOver s t) (λ b k. left-not s t b l k (within b (subset-holds (holds s) (holds t) (none .0) b k))) ∙ sym (none .1))
+    (λ one.
+    zeros-below 32 (leftOver s t) (missing s t) (one .0) (left-missing s t (missing s t) l (one .0) (and-l (isMissing (holds s) (holds t) (missing s t)) _ (one .1)))
+    (λ b k. left-not s t b l (omega (arith, k, one .0)) (all-at (missing s t) (λ b. not (isMissing (holds s) (holds t) b)) (and-r (isMissing (holds s) (holds t) (missing s t)) _ (one .1)) b k)))
+    (told (holds s) (holds t))
+  where
+    within : (b : ℕ) → (T (holds s b) → T (holds t b)) → T (not (isMissing (holds s) (holds t) b))
+    within b f = not-T (isMissing (holds s) (holds t) b) (λ m. T-not (holds t b) (and-r (holds s b) (not (holds t b)) m) (f (and-l (holds s b) (not (holds t b)) m)))
 
 pub empty-word : empty ≡ 0
 unfolding empty
@@ -73,6 +108,21 @@ empty-holds a h = let e = bit-of empty a h in omega (arith, rw zero-div at e)
 pub all-holds : (a : ℕ) → a < endpoints → T (holds all a)
 unfolding holds all allBelow
 all-holds = all-at endpoints (holds all) tt
+
+-- only the empty set, which the code has as 0, is within the empty set
+pub within-none : (s : ℕ) → s < 2 ^ 32 → within s 0 ≡ eqb s 0
+unfolding empty
+within-none s l =
+    same (within s 0) (eqb s 0)
+    (λ w. rw (no-bits endpoints s l (λ a k. unheld-bit s a k (not-T (holds s a) (λ h. empty-holds a (subset-holds (holds s) (holds 0) w a k h))))) tt)
+    (λ e. holds-subset (holds s) (holds 0) (λ a k h. subst (λ (x : ℕ). T (holds x a)) (eqb→eq s 0 e) h))
+  where
+    no-bits : (n s : ℕ) → s < 2 ^ n → ((a : ℕ) → a < n → s / 2 ^ a % 2 ≡ 0) → s ≡ 0
+    no-bits zero s l f = lt-one l
+    no-bits (suc n) s l f =
+        let rest = no-bits n (s / 2) (shr-lt n 1 (rw add-one l)) (λ a k. half-bit s a ∙ f (suc a) (suc-le-suc k)) in
+        let low = rw div-one at (f zero (zero-lt-suc n)) in
+        omega (arith, rest, low)
 
 -- a singleton holds its endpoint and no other: one computed test of all 32 by 32
 beq-eq : (x y : Bool) → T (Bool·beq x y) → x ≡ y
@@ -94,6 +144,6 @@ only-holds a b l k =
     beq-eq (holds (only a) b) (eqb a b)
     (all-at endpoints (right a) (all-at endpoints (λ a. allBelow endpoints (right a)) computed a l) b k)
 
--- so a singleton is within just the sets that hold its endpoint
-pub only-within : (a s : ℕ) → a < endpoints → within (only a) s ≡ holds s a
-only-within a s l = one-subset (holds (only a)) a l (λ b k. only-holds a b l k) (holds s)
+-- so what is missing of a singleton is its endpoint, just where a set does not hold it
+pub only-missing : (a s : ℕ) → a < endpoints → missing (only a) s ≡ unheld s a
+only-missing a s l = one-missing (holds (only a)) a l (λ b k. only-holds a b l k) (holds s)
