@@ -3,6 +3,7 @@ use Rattle.machine.specs.Cases.{with, emptyRows, policyWith, stepBytes, 
 use Rattle.machine.specs.MoreCases.{MoreCases}
 use Rattle.machine.specs.HttpsCases.{HttpsCases}
 use Rattle.machine.specs.EntryCases.{EntryCases}
+use Rattle.machine.specs.MissingCases.{MissingCases}
 use Rattle.machine.proofs.Computing.{machine}
 
 -- what the cases are told with, opened too
@@ -25,3 +26,7 @@ https-cases = tt
 pub entry-cases : EntryCases
 unfolding cases
 entry-cases = tt
+
+pub missing-cases : MissingCases
+unfolding cases
+missing-cases = tt

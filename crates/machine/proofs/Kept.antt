@@ -4,17 +4,19 @@ use Rattle.prelude.proofs.Kit.{ℕ, _≤_, _<_, _+_, suc, _^_, zero, _*_, zero-
 use Rattle.prelude.proofs.Kit.{eqb→eq, ltb→lt, length, getD, set, length-append}
 use lib.Dec.{lit≤}
 use Rattle.prelude.proofs.Choices.{parts, joined, one}
+use Rattle.labels.specs.Membership.{isNone}
 use Rattle.labels.specs.Addresses.{hosts}
 use Rattle.records.specs.declared.Direction.the-variants.{Input}
 use Rattle.records.specs.declared.Record.{Record}
 use Rattle.records.specs.Layout.{keyNumbers}
 use Rattle.records.specs.Codec.{decoded}
-use Rattle.machine.specs.Policy.{hostKeys, connections, cookieIndex, urlHost, isUrl, upgraded, isConnection, fits, maySend, fitReaders, fitWriters, redirectReaders, redirectWriters}
+use Rattle.machine.specs.Policy.{hostKeys, connections, cookieIndex, urlHost, isUrl, upgraded, isConnection, fits, maySend, redirectMissingReader, redirectMissingWriter}
 use Rattle.machine.specs.Session.{presenceAt, cookieValue, connectionWord, free, documentKind, scriptKind, pictureKind, packed, kindOf, originOf, handlerOf, urlOf, kindSound, urlSound, Cookie, setCookie, storeCookie, storeCookies, setConnection, request, Effects, send}
 use Rattle.machine.specs.Scripts.{stepLimit, scriptAt, Step, end, constant, add, readCookie, writeCookie, sendRequest, skipIfZero, sendPicture, stepOf, stepAt, Progress, register, isScript, ended, goesOn, goesOnAfter, requested, step, stopped, followed, runFrom, startingWith, runScript}
-use Rattle.machine.specs.Machine.{Arrived, DocumentResponse, ScriptResponse, PictureResponse, Redirect, Event, Load, Arrival, eventIn, carriesNames, named, pending, ofKind, awaited, ofTarget, readersAllow, writersAllow, receive, perform}
+use Rattle.machine.specs.Machine.{Arrived, DocumentResponse, ScriptResponse, PictureResponse, Redirect, Event, Load, Arrival, eventIn, carriesNames, named, pending, ofKind, awaited, toTarget, missingReader, missingWriter, receive, perform}
 use Rattle.machine.proofs.Lists.{Each, each-append, each-set, each-at}
 use Rattle.machine.proofs.Accepted.{Passed}
+use Rattle.machine.proofs.Missing.{redirect-fits}
 use Rattle.machine.proofs.Events.{KeysBelow, EventKeys, event-keys, EventCookies, event-cookies, ArrivedValue, EventValue, event-value, Asked, ArrivedAsks, EventAsks, event-asks}
 use Rattle.machine.proofs.SoundStates.{Sound, sound-of, cookie-kept, connection-kept, connection-freed, openFields, word-fields, script-fields, fields-word, fields-moved}
 
@@ -157,10 +159,10 @@ module _ (p : List ℕ) (Q : ℕ → Type 0) (R : Record → Type 0) (laws : Kee
         (connection-freed p Q stored (store-kept n (urlHost p u) (omega arith) cs keys values s good) n l)
 
     receive-kept : (u n : ℕ) (cs : List Cookie) (what : Arrived) → T (isUrl p u) → n < connections → T (carriesNames p what) → T (pending s n u)
-        → T (ofKind (kindOf (connectionWord s n)) what) → T (ofTarget (redirectReaders p n) what) → T (ofTarget (redirectWriters p n) what)
+        → T (ofKind (kindOf (connectionWord s n)) what) → T (isNone (toTarget (redirectMissingReader p n) what)) → T (isNone (toTarget (redirectMissingWriter p n) what))
         → KeysBelow cs → Each (λ (c : Cookie). Q (c .value)) cs → ArrivedValue Q what → ArrivedAsks p what
         → Good p Q R stepLimit (receive p scripts n (connectionWord s n) what (storeCookies p n (urlHost p u) cs s))
-    unfolding receive pending redirectReaders redirectWriters urlSound fits
+    unfolding receive pending urlSound
     receive-kept u n cs (DocumentResponse x) url l names waits kind r w keys values q a =
         let page = urlOf (connectionWord s n) in
         response-kept u n cs page x 0 l keys values (rw (eqb→eq page u (search parts)) url) (laws .none)
@@ -172,14 +174,15 @@ module _ (p : List ℕ) (Q : ℕ → Type 0) (R : Record → Type 0) (laws : Kee
         let stored = storeCookies p n (urlHost p u) cs s in
         stops stepLimit (setConnection n free stored) (connection-freed p Q stored (store-kept n (urlHost p u) (omega arith) cs keys values s good) n l)
     receive-kept u n cs (Redirect v) url l names waits kind r w keys values q a =
+        let fit = redirect-fits p n v r w in
         let word = connectionWord s n in
         let t = word-fields p n word (good .words n l) (search parts) in
         send-kept n (kindOf word) (originOf word) (handlerOf word) v stepLimit (lit≤ tt) l (fields-moved p n (kindOf word) (originOf word) (handlerOf word) (urlOf word) t v (search joined)) a
         (storeCookies p n (urlHost p u) cs s) (store-kept n (urlHost p u) (omega arith) cs keys values s good)
 
-    perform-kept : (e : Event) → T (named p e) → T (awaited s e) → T (readersAllow p e) → T (writersAllow p e)
+    perform-kept : (e : Event) → T (named p e) → T (awaited s e) → T (isNone (missingReader p e)) → T (isNone (missingWriter p e))
         → EventKeys e → EventCookies (λ (c : Cookie). Q (c .value)) e → EventValue Q e → EventAsks p e → Good p Q R stepLimit (perform p scripts s e)
-    unfolding perform named awaited readersAllow writersAllow fitReaders fitWriters kindSound urlSound fits
+    unfolding perform named awaited missingReader missingWriter kindSound urlSound fits
     perform-kept (Load u n) a b c d keys values q asks =
         send-kept n documentKind 0 0 u stepLimit (lit≤ tt) (ltb→lt n connections (search parts)) (search joined) asks s good
     perform-kept (Arrival u n cs what) a b c d keys values q asks =

@@ -4,6 +4,7 @@ pub mod ConnectionWords
 pub mod StateWords
 pub mod Events
 pub mod Accepted
+pub mod Missing
 pub mod SoundStates
 pub mod Kept
 pub mod Soundness

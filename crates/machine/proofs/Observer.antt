@@ -5,7 +5,8 @@ use Rattle.prelude.specs.Choice.{keep}
 use Rattle.prelude.proofs.Choices.{keep-append, map-append}
 use Rattle.labels.specs.Addresses.{hosts}
 use Rattle.records.specs.declared.Record.{Record}
-use Rattle.machine.specs.Policy.{hostKeys, connections, cookieIndex, urlHost, isUrl, mayStore, mayCarry, mayRead, mayWrite, maySend, fitReaders, redirectReaders, redirectWriters}
+use Rattle.labels.specs.Membership.{isNone}
+use Rattle.machine.specs.Policy.{hostKeys, connections, cookieIndex, urlHost, isUrl, mayStore, mayCarry, mayRead, mayWrite, maySend, fitMissingReader, redirectMissingReader, redirectMissingWriter}
 use Rattle.machine.specs.Session.{stateWords, cookieValue, present, has, connectionWord, setCookie, setConnection}
 use Rattle.machine.specs.Machine.{plainMap, cookiesOf}
 use Rattle.machine.specs.Secrecy.{Observation}
@@ -31,9 +32,9 @@ pub record Laws (p : List ℕ) (v : Observer) : Type 0 where
   pub opens : (n u m : ℕ) → T (maySend p n u m) → T (v .seesConnection m) → T (v .seesScript n)
   pub attaches :
       (u k : ℕ) → T (mayCarry p u k) → T (v .seesRequest u) → T (v .seesAttached u k) → T (v .seesCookie (cookieIndex (urlHost p u) k))
-  pub loads : (n u : ℕ) → T (fitReaders p n u) → T (v .seesConnection n) → T (v .seesLoad u)
+  pub loads : (n u : ℕ) → T (isNone (fitMissingReader p n u)) → T (v .seesConnection n) → T (v .seesLoad u)
   pub requests : (u : ℕ) → T (isUrl p u) → T (v .seesRequest u) → T (v .seesLoad u)
-  pub redirects : (n t : ℕ) → T (redirectReaders p n t) → T (redirectWriters p n t) → T (v .seesRequest t) → T (v .seesConnection n)
+  pub redirects : (n t : ℕ) → T (isNone (redirectMissingReader p n t)) → T (isNone (redirectMissingWriter p n t)) → T (v .seesRequest t) → T (v .seesConnection n)
 
 -- ---- requests as an observer sees them
 

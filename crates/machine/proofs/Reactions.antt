@@ -4,10 +4,11 @@ use Rattle.prelude.proofs.Kit.{ℕ, _<_, arith, _&&_, Bool, not, List, _∷_, [
 use Rattle.prelude.specs.Choice.{keep}
 use Rattle.prelude.proofs.Choices.{parts, one, two}
 use Rattle.labels.specs.Addresses.{hosts}
-use Rattle.machine.specs.Policy.{hostKeys, connections, cookieIndex, urlHost, mayStore, redirectReaders, redirectWriters}
+use Rattle.labels.specs.Membership.{isNone}
+use Rattle.machine.specs.Policy.{hostKeys, connections, cookieIndex, urlHost, mayStore, redirectMissingReader, redirectMissingWriter}
 use Rattle.machine.specs.Session.{stateWords, free, documentKind, connectionWord, kindOf, originOf, handlerOf, urlOf, Cookie, storeCookie, storeCookies, setConnection}
 use Rattle.machine.specs.Scripts.{runScript}
-use Rattle.machine.specs.Machine.{Arrived, DocumentResponse, ScriptResponse, PictureResponse, Redirect, Event, Load, Arrival, named, pending, ofKind, awaited, ofTarget, readersAllow, writersAllow, receive, perform}
+use Rattle.machine.specs.Machine.{Arrived, DocumentResponse, ScriptResponse, PictureResponse, Redirect, Event, Load, Arrival, named, pending, ofKind, awaited, toTarget, missingReader, missingWriter, receive, perform}
 use Rattle.machine.proofs.Accepted.{allowed, allowed-by, react}
 use Rattle.machine.proofs.Events.{KeysBelow, EventKeys, connection-below}
 use Rattle.machine.proofs.Observer.{Observer, Laws, Agree, agree-refl, agree-trans, agree-sym, unseen-cookie, unseen-connection, same-cookie, same-connection}
@@ -72,7 +73,7 @@ module _ (p : List ℕ) (v : Observer) (laws : Laws p v) where
         (script-quiet p v laws scripts n page x value (setConnection n free s) (a .right) (unseen (v .seesScript n) (v .seesConnection n) (laws .scripts n l) hidden))
 
     receive-quiet : (n word : ℕ) (what : Arrived) (s : List ℕ) → n < connections → T (not (v .seesConnection n)) → length s ≡ stateWords
-        → T (ofTarget (redirectReaders p n) what) → T (ofTarget (redirectWriters p n) what) → Quiet v s (receive p scripts n word what s)
+        → T (isNone (toTarget (redirectMissingReader p n) what)) → T (isNone (toTarget (redirectMissingWriter p n) what)) → Quiet v s (receive p scripts n word what s)
     unfolding receive
     receive-quiet n word (DocumentResponse x) s l hidden whole r w = respond-quiet n (urlOf word) x 0 s l hidden whole
     receive-quiet n word (ScriptResponse value) s l hidden whole r w = respond-quiet n (originOf word) (handlerOf word) value s l hidden whole
@@ -84,8 +85,8 @@ module _ (p : List ℕ) (v : Observer) (laws : Laws p v) where
         (unseen (v .seesRequest t) (v .seesConnection n) (laws .redirects n t r w) hidden)
 
     perform-quiet : (e : Event) (s : List ℕ) → T (named p e) → EventKeys e → T (not (seesEvent v e)) → length s ≡ stateWords
-        → T (readersAllow p e) → T (writersAllow p e) → Quiet v s (perform p scripts s e)
-    unfolding perform named seesEvent readersAllow writersAllow
+        → T (isNone (missingReader p e)) → T (isNone (missingWriter p e)) → Quiet v s (perform p scripts s e)
+    unfolding perform named seesEvent missingReader missingWriter
     perform-quiet (Load u n) s ok below hidden whole r w =
         send-quiet p v laws n documentKind 0 0 u s whole
         (unseen (v .seesConnection n) (v .seesLoad u) (laws .loads n u r) hidden)
@@ -123,13 +124,13 @@ module _ (p : List ℕ) (v : Observer) (laws : Laws p v) where
         ap (λ (w : ℕ). not (eqb w free) && eqb (urlOf w) u && ofKind (kindOf w) what)
         (a .words n (connection-below p (Arrival u n cs what) ok) seen)
 
-    readers-alike : (e : Event) → readersAllow p e ≡ readersAllow p (seenOf p v e)
-    unfolding seenOf readersAllow
+    readers-alike : (e : Event) → missingReader p e ≡ missingReader p (seenOf p v e)
+    unfolding seenOf missingReader
     readers-alike (Load u n) = refl
     readers-alike (Arrival u n cs what) = refl
 
-    writers-alike : (e : Event) → writersAllow p e ≡ writersAllow p (seenOf p v e)
-    unfolding seenOf writersAllow
+    writers-alike : (e : Event) → missingWriter p e ≡ missingWriter p (seenOf p v e)
+    unfolding seenOf missingWriter
     writers-alike (Load u n) = refl
     writers-alike (Arrival u n cs what) = refl
 

@@ -1,14 +1,14 @@
 -- The observer of secrecy: a set of endpoints sees what has a reader in it. The laws of an observer, one for each condition of the policy's
 -- tests that speaks of readers.
-use Rattle.prelude.proofs.Kit.{ℕ, _<_, true, _&&_, Bool, false, not, _||_, List, T, ltb, ltb→lt}
+use Rattle.prelude.proofs.Kit.{ℕ, _<_, List, T}
 use Rattle.prelude.proofs.Choices.{parts}
-use Rattle.labels.specs.Membership.{endpoints}
 use Rattle.labels.specs.Sets.{holds, within, meets}
 use Rattle.labels.proofs.Below.{all-at}
 use Rattle.labels.proofs.Membership.{share-mono, share-member}
 use Rattle.labels.proofs.Words.{holds-below}
-use Rattle.machine.specs.Policy.{urlRows, connections, urlAddress, cookieIndex, urlReaders, cookieReaders, connectionReaders, scriptReaders, urlHost, urlMessage, urlEvent, emptyRow, rowWellFormed, connectionWellFormed, wellFormed, isUrl, mayStore, mayCarry, mayRead, mayWrite, maySend, fitReaders, redirectReaders}
+use Rattle.machine.specs.Policy.{connections, cookieIndex, urlReaders, cookieReaders, connectionReaders, scriptReaders, urlHost, urlMessage, urlEvent, connectionWellFormed, wellFormed, mayStore, mayCarry, mayRead, mayWrite, maySend}
 use Rattle.machine.proofs.Observer.{Observer, Laws}
+use Rattle.machine.proofs.Missing.{loaded, redirected, event-held}
 
 unfoldable pub readers : ℕ → List ℕ → Observer
 readers set p = record {
@@ -34,17 +34,6 @@ module _ (set : ℕ) (p : List ℕ) (good : T (wellFormed p)) where
   unfolding wellFormed connectionWellFormed
   script-within n l = all-at connections (connectionWellFormed p) (search parts) n l
 
-  other-half : (x y : Bool) → T (not x) → T (x || y) → T y
-  other-half true y t o = absurd t
-  other-half false y t o = o
-
-  event-held : (u : ℕ) → T (isUrl p u) → T (holds (urlReaders p u) (urlEvent p u))
-  unfolding wellFormed isUrl rowWellFormed
-  event-held u t =
-      let row = all-at urlRows (rowWellFormed p) (search parts) u (ltb→lt u urlRows (search parts)) in
-      let named = other-half (emptyRow p u) (ltb (urlAddress p u) endpoints && holds (urlReaders p u) (urlEvent p u)) (search parts) row in
-      search parts
-
   -- ---- the conditions
 
   stored : (n c : ℕ) → T (mayStore p n c) → T (within (cookieReaders p c) (connectionReaders p n))
@@ -67,14 +56,6 @@ module _ (set : ℕ) (p : List ℕ) (good : T (wellFormed p)) where
   unfolding maySend
   sent n u m t = (search parts, search parts)
 
-  loaded : (n u : ℕ) → T (fitReaders p n u) → T (within (connectionReaders p n) (urlReaders p u))
-  unfolding fitReaders
-  loaded n u t = t
-
-  redirected : (n t : ℕ) → T (redirectReaders p n t) → T (holds (connectionReaders p n) (urlEvent p t))
-  unfolding redirectReaders
-  redirected n t r = search parts
-
   pub readers-laws : Laws p (readers set p)
   unfolding readers
   readers-laws = record {
@@ -85,7 +66,7 @@ module _ (set : ℕ) (p : List ℕ) (good : T (wellFormed p)) where
     sends = λ n u m t. shares (scriptReaders p n) (urlEvent p u) (sent n u m t .0);
     opens = λ n u m t. around (connectionReaders p m) (scriptReaders p n) (sent n u m t .1);
     attaches = λ u k t seen. shares (cookieReaders p (cookieIndex (urlHost p u) k)) (urlMessage p u) (carried u k t);
-    loads = λ n u t. around (connectionReaders p n) (urlReaders p u) (loaded n u t);
-    requests = λ u t. shares (urlReaders p u) (urlEvent p u) (event-held u t);
-    redirects = λ n t r w. shares (connectionReaders p n) (urlEvent p t) (redirected n t r);
+    loads = λ n u t. around (connectionReaders p n) (urlReaders p u) (loaded p n u t);
+    requests = λ u t. shares (urlReaders p u) (urlEvent p u) (event-held p good u t);
+    redirects = λ n t r w. shares (connectionReaders p n) (urlEvent p t) (redirected p n t r);
   }

@@ -13,7 +13,7 @@ use Rattle.records.specs.Codec.{Run as Reading}
 use Rattle.machine.specs.Policy.{urlMessage, urlEvent, wellFormed}
 use Rattle.machine.specs.Session.{stateWords, emptyState, Cookie}
 use Rattle.machine.specs.Scripts.{tableBytes, stopped}
-use Rattle.machine.specs.Machine.{Event, Load, Arrival, plainMap, cookiesOf, eventIn, named, refusal, outcome, feed}
+use Rattle.machine.specs.Machine.{Event, Load, Arrival, plainMap, cookiesOf, eventIn, named, verdict, outcome, feed}
 use Rattle.machine.specs.Guarantees.{areWords}
 use Rattle.machine.specs.Secrecy.{Item, Feedable, feedAll, run, shownCookies, shown, shownRecord, shownRecords, remaining, observationOf, observations, SameView, Secrecy, NothingUnread}
 use Rattle.machine.proofs.Accepted.{all-passed}
@@ -62,12 +62,12 @@ module _ (set : ℕ) (p : List ℕ) where
 
 -- ---- runs in which every record is refused
 
-module _ (p scripts : List ℕ) (all : (s bytes out : List ℕ) → refusal p scripts s bytes out ≡ accepted → ⊥) where
+module _ (p scripts : List ℕ) (all : (s bytes out : List ℕ) → verdict p scripts s bytes out .number ≡ accepted → ⊥) where
   refused-effects : (s bytes out : List ℕ) → outcome p scripts s bytes out .effects ≡ stopped s
   unfolding outcome
   refused-effects s bytes out =
-      branch-false (eqb (refusal p scripts s bytes out) accepted) _ (stopped s)
-      (not-T (eqb (refusal p scripts s bytes out) accepted) (λ t. all s bytes out (eqb→eq (refusal p scripts s bytes out) accepted t)))
+      branch-false (eqb (verdict p scripts s bytes out .number) accepted) _ (stopped s)
+      (not-T (eqb (verdict p scripts s bytes out .number) accepted) (λ t. all s bytes out (eqb→eq (verdict p scripts s bytes out .number) accepted t)))
 
   refused-run : (s : List ℕ) (is : List Item) → feedAll p scripts s is ≡ record { requests = []; unread = []; state = s }
   unfolding feedAll feed stopped writeRun readRun readAtMost outcome

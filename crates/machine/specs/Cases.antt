@@ -97,11 +97,12 @@ picturing n u = connectionIs n (packed pictureKind 0 0 u)
 
 -- ---- a case
 
--- one call: the record, and its number, steps, bytes sent and the words of the state after it
+-- one call: the record, and its number, steps, missing endpoint, bytes sent and the words of the state after it
 pub record Call : Type 0 where
   pub fed : List ℕ
   pub number : ℕ
   pub steps : ℕ
+  pub missing : ℕ
   pub sent : List ℕ
   pub state : List Words
 
@@ -112,12 +113,16 @@ pub record Case : Type 0 where
   pub start : List Words
   pub calls : List Call
 
+-- every answer but 8 and 9 has 32: no endpoint is missing
 abbrev pub call : List ℕ → ℕ → ℕ → List ℕ → List Words → Call
-call fed number steps sent state = record { fed = fed; number = number; steps = steps; sent = sent; state = state }
+call fed number steps sent state = record { fed = fed; number = number; steps = steps; missing = 32; sent = sent; state = state }
 
--- a record that is refused leaves the state as it was
+-- a record that is refused leaves the state as it was; where 8 or 9 refuses it an endpoint is missing
 abbrev pub refused : List ℕ → ℕ → List Words → Call
 refused fed number state = call fed number 0 [] state
+
+abbrev pub forbidden : List ℕ → ℕ → ℕ → List Words → Call
+forbidden fed number missing state = record { fed = fed; number = number; steps = 0; missing = missing; sent = []; state = state }
 
 -- one call with room enough: scripts and state to start from, the record, and its number, steps, bytes sent and the words of the state after it
 abbrev pub oneCall : List Words → List Words → List ℕ → ℕ → ℕ → List ℕ → List Words → Case
@@ -130,6 +135,21 @@ oneCall scripts start fed number steps sent state = record {
 
 abbrev pub oneRefused : List Words → List ℕ → ℕ → Case
 oneRefused start fed number = oneCall [] start fed number 0 [] start
+
+abbrev pub oneForbidden : List Words → List ℕ → ℕ → ℕ → Case
+oneForbidden start fed number missing = record {
+  scripts = scriptsWith [];
+  room = outputRoom;
+  start = start;
+  calls = forbidden fed number missing start ∷ [];
+}
+
+-- a load of URL u on connection n that 8 or 9 refuses, and such a redirect of connection n, from URL 0, to URL t
+abbrev pub loadForbidden : List Words → ℕ → ℕ → ℕ → ℕ → Case
+loadForbidden start u n number missing = oneForbidden start (0x03 ∷ u ∷ n ∷ []) number missing
+
+abbrev pub redirectForbidden : List Words → ℕ → ℕ → ℕ → ℕ → Case
+redirectForbidden start t n number missing = oneForbidden (loading n 0 ∷ start) (0x23 ∷ 0x00 ∷ n ∷ t ∷ []) number missing
 
 -- the page, URL 0 on connection 0, whose script is one step: it goes on after the step, or ends; the jar stays
 abbrev pub pageWith : List Words → Step → ℕ → List ℕ → List Words → Case
@@ -146,14 +166,15 @@ sameNumbers [] (y ∷ ys) = false
 sameNumbers (x ∷ xs) [] = false
 sameNumbers (x ∷ xs) (y ∷ ys) = eqb x y && sameNumbers xs ys
 
--- number, counts, whole state and whole buffer are as the case says
+-- number, counts, missing endpoint, whole state and whole buffer are as the case says
 unfoldable pub gives : ℕ → Call → Fed → Bool
 gives room c got =
     eqb (got .number) (c .number)
     && (eqb (got .bytes) (length (c .sent))
     && (eqb (got .steps) (c .steps)
+    && (eqb (got .missing) (c .missing)
     && (sameNumbers (got .state) (stateWith (c .state))
-    && sameNumbers (got .buffer) (c .sent ++ drop (length (c .sent)) (bufferOf room)))))
+    && sameNumbers (got .buffer) (c .sent ++ drop (length (c .sent)) (bufferOf room))))))
 
 unfoldable pub rightFrom : List ℕ → List ℕ → ℕ → List ℕ → List Call → Bool
 rightFrom p scripts room s [] = true
@@ -219,9 +240,9 @@ casesAToJ =
     -- a; e; f
     fromEmpty (caseA ∷ caseE ∷ caseF ∷ [])
     -- b
-    ∷ fromEmpty (refused (0x03 ∷ 0x00 ∷ 0x01 ∷ []) 8 [] ∷ [])
+    ∷ fromEmpty (forbidden (0x03 ∷ 0x00 ∷ 0x01 ∷ []) 8 1 [] ∷ [])
     -- c
-    ∷ fromEmpty (refused (0x03 ∷ 0x03 ∷ 0x00 ∷ []) 9 [] ∷ [])
+    ∷ fromEmpty (forbidden (0x03 ∷ 0x03 ∷ 0x00 ∷ []) 9 0 [] ∷ [])
     -- d: URL 4 has an empty row, 64 no row; there is no connection 32
     ∷ fromEmpty (refused (0x03 ∷ 0x04 ∷ 0x00 ∷ []) 6 [] ∷ [])
     ∷ fromEmpty (refused (0x03 ∷ 0x40 ∷ 0x00 ∷ []) 6 [] ∷ [])
@@ -230,11 +251,11 @@ casesAToJ =
     ∷ fromEmpty (caseA ∷ caseE ∷ call (0x03 ∷ 0x03 ∷ 0x03 ∷ []) 0 0 (0x03 ∷ 0x03 ∷ 0x03 ∷ []) (loading 3 3 ∷ sevenStored) ∷ [])
     -- h, after a: the cookie that the redirect brings is not stored
     ∷ fromEmpty (caseA
-    ∷ refused (0x27 ∷ 0x00 ∷ 0x00 ∷ 0x01 ∷ 0x00 ∷ 0x00 ∷ 0x00 ∷ 0x09 ∷ 0x02 ∷ []) 8 (loading 0 0 ∷ [])
+    ∷ forbidden (0x27 ∷ 0x00 ∷ 0x00 ∷ 0x01 ∷ 0x00 ∷ 0x00 ∷ 0x00 ∷ 0x09 ∷ 0x02 ∷ []) 8 1 (loading 0 0 ∷ [])
     ∷ [])
     -- i: a load that is accepted, and its redirect
     ∷ fromEmpty (call (0x03 ∷ 0x01 ∷ 0x01 ∷ []) 0 0 (0x03 ∷ 0x01 ∷ 0x01 ∷ []) (loading 1 1 ∷ [])
-    ∷ refused (0x23 ∷ 0x01 ∷ 0x01 ∷ 0x02 ∷ []) 9 (loading 1 1 ∷ [])
+    ∷ forbidden (0x23 ∷ 0x01 ∷ 0x01 ∷ 0x02 ∷ []) 9 0 (loading 1 1 ∷ [])
     ∷ [])
     -- j: the empty record; a request's map; a key map of 0
     ∷ fromEmpty (refused [] 10 [] ∷ [])

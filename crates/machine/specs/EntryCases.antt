@@ -6,7 +6,8 @@ use mathlib.Core.List.{List, [], _∷_, _++_}
 use lib.Dec.{T}
 use Rattle.machine.specs.Scripts.{Step, end, constant, writeCookie, sendRequest, sendPicture}
 use Rattle.machine.specs.Cases.{Words, url, cookieLabel, connection, alwaysHttps, partner, policyWith, scriptOf, valueIs, keysAre}
-use Rattle.machine.specs.Cases.{loading, requesting, picturing, Case, call, refused, oneCall, oneRefused, pageWith, fromEmpty, allRight}
+use Rattle.machine.specs.Cases.{loading, requesting, picturing, Case, call, forbidden, oneCall, oneRefused, oneForbidden}
+use Rattle.machine.specs.Cases.{loadForbidden, redirectForbidden, pageWith, fromEmpty, allRight}
 
 -- ---- a policy
 
@@ -71,15 +72,9 @@ policyE = policyWith wordsE
 abbrev pub loadGoes : ℕ → ℕ → Case
 loadGoes u n = oneCall [] [] (0x03 ∷ u ∷ n ∷ []) 0 0 (0x03 ∷ u ∷ n ∷ []) (loading n u ∷ [])
 
-abbrev pub loadRefused : ℕ → ℕ → ℕ → Case
-loadRefused u n number = oneRefused [] (0x03 ∷ u ∷ n ∷ []) number
-
 -- a redirect of the page, on connection 1, to URL t: the request goes to URL u
 abbrev pub redirectGoes : ℕ → ℕ → Case
 redirectGoes t u = oneCall [] (loading 1 0 ∷ []) (0x23 ∷ 0x00 ∷ 0x01 ∷ t ∷ []) 0 0 (0x03 ∷ u ∷ 0x01 ∷ []) (loading 1 u ∷ [])
-
-abbrev pub redirectRefused : ℕ → ℕ → Case
-redirectRefused t number = oneRefused (loading 1 0 ∷ []) (0x23 ∷ 0x00 ∷ 0x01 ∷ t ∷ []) number
 
 -- a script of the page that requests URL a, by step 5 and by step 7: the request goes to URL u, or the script ends
 abbrev pub scriptsGo : ℕ → ℕ → ℕ → List Case
@@ -99,29 +94,29 @@ casesOfConditions =
     redirectGoes 9 9
     ∷ redirectGoes 10 10
     -- 8 of a redirect: the event endpoint; the URL's readers. 9: the message endpoint.
-    ∷ redirectRefused 3 8
-    ∷ redirectRefused 4 8
-    ∷ redirectRefused 5 8
-    ∷ redirectRefused 6 8
-    ∷ redirectRefused 7 9
-    ∷ redirectRefused 8 9
+    ∷ redirectForbidden [] 3 1 8 2
+    ∷ redirectForbidden [] 4 1 8 2
+    ∷ redirectForbidden [] 5 1 8 0
+    ∷ redirectForbidden [] 6 1 8 0
+    ∷ redirectForbidden [] 7 1 9 1
+    ∷ redirectForbidden [] 8 1 9 1
     -- And the URL's writers, from which an entry is excused, by https and by http, on connections of every kind.
-    ∷ redirectRefused 1 9
+    ∷ redirectForbidden [] 1 1 9 0
     ∷ redirectGoes 2 2
-    ∷ redirectRefused 18 9
+    ∷ redirectForbidden [] 18 1 9 0
     ∷ redirectGoes 19 19
-    ∷ redirectRefused 20 9
+    ∷ redirectForbidden [] 20 1 9 3
     ∷ oneCall [] (requesting 1 0 3 9 ∷ []) (0x23 ∷ 0x09 ∷ 0x01 ∷ 0x02 ∷ []) 0 0 (0x0b ∷ 0x02 ∷ 0x01 ∷ 0x03 ∷ []) (requesting 1 0 3 2 ∷ [])
     ∷ oneCall [] (picturing 1 9 ∷ []) (0x23 ∷ 0x09 ∷ 0x01 ∷ 0x02 ∷ []) 0 0 (0x43 ∷ 0x02 ∷ 0x01 ∷ []) (picturing 1 2 ∷ [])
-    ∷ oneRefused (requesting 1 0 3 9 ∷ []) (0x23 ∷ 0x09 ∷ 0x01 ∷ 0x01 ∷ []) 9
-    ∷ oneRefused (picturing 1 9 ∷ []) (0x23 ∷ 0x09 ∷ 0x01 ∷ 0x01 ∷ []) 9
+    ∷ oneForbidden (requesting 1 0 3 9 ∷ []) (0x23 ∷ 0x09 ∷ 0x01 ∷ 0x01 ∷ []) 9 0
+    ∷ oneForbidden (picturing 1 9 ∷ []) (0x23 ∷ 0x09 ∷ 0x01 ∷ 0x01 ∷ []) 9 0
     -- A load is asked for the URL's readers and message endpoint, and not for its writers.
     ∷ loadGoes 1 1
     ∷ loadGoes 2 1
-    ∷ loadRefused 5 1 8
-    ∷ loadRefused 6 1 8
-    ∷ loadRefused 7 1 9
-    ∷ loadRefused 8 1 9
+    ∷ loadForbidden [] 5 1 8 0
+    ∷ loadForbidden [] 6 1 8 0
+    ∷ loadForbidden [] 7 1 9 1
+    ∷ loadForbidden [] 8 1 9 1
     -- Steps 5 and 7, where nothing fails,
     ∷ scriptsGo 9 9 1
     ++ (scriptsGo 10 10 1
@@ -164,9 +159,9 @@ casesOfSearching =
     -- does not lead to the page behind either, but to the front page again.
     fromEmpty (
     call (0x03 ∷ 0x0f ∷ 0x04 ∷ []) 0 0 (0x03 ∷ 0x0f ∷ 0x04 ∷ []) searching
-    ∷ refused (0x23 ∷ 0x0f ∷ 0x04 ∷ 0x11 ∷ []) 9 searching
+    ∷ forbidden (0x23 ∷ 0x0f ∷ 0x04 ∷ 0x11 ∷ []) 9 21 searching
     ∷ call (0x23 ∷ 0x0f ∷ 0x04 ∷ 0x10 ∷ []) 0 0 (0x03 ∷ 0x10 ∷ 0x04 ∷ []) atFront
-    ∷ refused (0x23 ∷ 0x10 ∷ 0x04 ∷ 0x11 ∷ []) 9 atFront
+    ∷ forbidden (0x23 ∷ 0x10 ∷ 0x04 ∷ 0x11 ∷ []) 9 21 atFront
     ∷ call (0x23 ∷ 0x10 ∷ 0x04 ∷ 0x10 ∷ []) 0 0 (0x03 ∷ 0x10 ∷ 0x04 ∷ []) atFront
     ∷ []
     )
@@ -191,8 +186,8 @@ casesOfSearching =
 abbrev pub casesOfPartners : List Case
 casesOfPartners =
     -- The partner decides: URL 12 is no entry, though URL 11 is one, and URL 14 is, though URL 13 is none.
-    redirectRefused 11 9
-    ∷ redirectRefused 12 9
+    redirectForbidden [] 11 1 9 0
+    ∷ redirectForbidden [] 12 1 9 0
     ∷ redirectGoes 13 14
     ∷ redirectGoes 14 14
     ∷ oneCall [] [] (0x03 ∷ 0x0b ∷ 0x01 ∷ []) 0 0 (0x03 ∷ 0x0c ∷ 0x01 ∷ []) (loading 1 12 ∷ [])
@@ -252,13 +247,13 @@ casesOfWords =
     ∷ loadGoes 2 2
     ∷ loadGoes 3 3
     ∷ loadGoes 4 4
-    ∷ loadRefused 0 5 9
-    ∷ loadRefused 1 6 9
-    ∷ loadRefused 2 7 9
-    ∷ loadRefused 3 8 9
-    ∷ loadRefused 4 9 9
+    ∷ loadForbidden [] 0 5 9 31
+    ∷ loadForbidden [] 1 6 9 0
+    ∷ loadForbidden [] 2 7 9 15
+    ∷ loadForbidden [] 3 8 9 16
+    ∷ loadForbidden [] 4 9 9 31
     -- word 31 is no entry, and the others are
-    ∷ oneRefused (loading 0 0 ∷ []) (0x23 ∷ 0x00 ∷ 0x00 ∷ 0x00 ∷ []) 9
+    ∷ redirectForbidden [] 0 0 9 31
     ∷ redirectAgain 1
     ∷ redirectAgain 2
     ∷ redirectAgain 3

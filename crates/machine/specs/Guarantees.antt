@@ -1,18 +1,19 @@
 -- What holds of every single call. The proofs are in proofs/Soundness.antt, Refusals.antt, WordSizes.antt, Sending.antt and Upgrading.antt.
 use Prim.Native.Nat.{ℕ, _^_, _≤_}
-use mathlib.Core.Bool.{Bool, true, not, _&&_}
+use mathlib.Core.Bool.{Bool, true, not, _&&_, _||_}
 use mathlib.Core.List.{List, [], _∷_}
 use mathlib.Core.Path.{_≡_}
-use lib.Dec.{T, ltb}
+use lib.Dec.{T, ltb, eqb}
 use lib.ListN.{length, take, drop}
 use lib.Pow.{areBytes}
 use Rattle.prelude.specs.Choice.{every}
 use Rattle.prelude.specs.Refusals.{accepted}
+use Rattle.labels.specs.Membership.{noneMissing, isNone}
 use Rattle.records.specs.declared.Direction.the-variants.{Request}
 use Rattle.records.specs.Codec.{readRun}
 use Rattle.machine.specs.Policy.{isReplaced}
 use Rattle.machine.specs.Session.{emptyState, sound}
-use Rattle.machine.specs.Machine.{outcome, Fed, feed}
+use Rattle.machine.specs.Machine.{readersForbid, writersForbid, Verdict, outcome, Fed, feed}
 
 -- Every record keeps a state sound, and the empty state is sound, under every policy.
 abbrev pub SoundKept : Type 0
@@ -21,14 +22,26 @@ SoundKept = (p scripts s bytes out : List ℕ) → T (sound p s) → T (sound p 
 abbrev pub EmptySound : Type 0
 EmptySound = (p : List ℕ) → T (sound p emptyState)
 
+-- the number and the missing endpoint of an answer
+abbrev pub toldIn : Fed → Verdict
+toldIn fed = record { number = fed .number; missing = fed .missing }
+
 -- A refusal changes nothing: zero counts, the same state, the same buffer.
-abbrev pub refusedWith : ℕ → List ℕ → List ℕ → Fed
-refusedWith number s out = record { number = number; bytes = 0; steps = 0; state = s; buffer = out }
+abbrev pub refusedWith : Verdict → List ℕ → List ℕ → Fed
+refusedWith told s out = record { number = told .number; bytes = 0; steps = 0; missing = told .missing; state = s; buffer = out }
 
 abbrev pub RefusalChangesNothing : Type 0
 RefusalChangesNothing =
     (p scripts s bytes out : List ℕ) → (feed p scripts s bytes out .number ≡ accepted → ⊥)
-    → feed p scripts s bytes out ≡ refusedWith (feed p scripts s bytes out .number) s out
+    → feed p scripts s bytes out ≡ refusedWith (toldIn (feed p scripts s bytes out)) s out
+
+-- An endpoint is told of just where 8 or 9 refuses: every other answer has 32.
+abbrev pub MissingIsTold : Type 0
+MissingIsTold =
+    (p scripts s bytes out : List ℕ)
+    → (feed p scripts s bytes out .missing ≤ noneMissing)
+    × (isNone (feed p scripts s bytes out .missing)
+    ≡ not (eqb (feed p scripts s bytes out .number) readersForbid || eqb (feed p scripts s bytes out .number) writersForbid))
 
 -- The counted bytes are in the buffer, and past them it is the old one.
 abbrev pub PastIsKept : Type 0

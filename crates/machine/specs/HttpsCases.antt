@@ -5,7 +5,8 @@ use lib.Dec.{T}
 use Rattle.machine.specs.Scripts.{Step, end, sendRequest, sendPicture}
 use Rattle.machine.specs.Machine.{outputRoom}
 use Rattle.machine.specs.Cases.{Words, url, cookieLabel, connection, alwaysHttps, partner, policyWith, scriptsWith, scriptOf, valueIs, keysAre}
-use Rattle.machine.specs.Cases.{loading, requesting, picturing, Case, call, refused, oneCall, oneRefused, pageWith, allRight}
+use Rattle.machine.specs.Cases.{loading, requesting, picturing, Case, call, refused, oneCall, oneRefused}
+use Rattle.machine.specs.Cases.{loadForbidden, redirectForbidden, pageWith, allRight}
 
 -- ---- a policy
 
@@ -25,6 +26,9 @@ wordsR =
     -- at host 1 by http: few readers; few writers
     ∷ url 7 1 0x2 0xffffffff
     ∷ url 8 1 0xffffffff 0x2
+    -- the same, but that they have 0 too
+    ∷ url 12 1 0x3 0xffffffff
+    ∷ url 13 1 0xffffffff 0x1
     -- at host 2 by http and by https
     ∷ url 9 2 0xffffffff 0xffffffff
     ∷ url 10 18 0xffffffff 0xffffffff
@@ -34,6 +38,8 @@ wordsR =
     ∷ partner 5 6
     ∷ partner 7 2
     ∷ partner 8 2
+    ∷ partner 12 4
+    ∷ partner 13 6
     -- the page's connection: its scripts have S = 0x7 and J = 0x1
     ∷ connection 0 0x7 0x7 0x1
     -- for the page and both schemes of host 1; without https at host 1; without http at host 1
@@ -92,18 +98,22 @@ casesOfAsking =
     ∷ scriptGoes 2 1
     ∷ pictureGoes 2 1
     -- The partner's readers decide, whatever the URL's own: those of URL 4 do not allow the connection's, and those of URL 3 would; the other way
-    -- round with URL 2 and URL 7.
-    ∷ loadRefused 3 1 8
-    ∷ redirectRefused 3 1 8
+    -- round with URL 2 and URL 7. And they tell what is missing: URL 12 itself lacks reader 2.
+    ∷ loadForbidden bothStored 3 1 8 0
+    ∷ redirectForbidden bothStored 3 1 8 0
+    ∷ loadForbidden bothStored 12 1 8 0
+    ∷ redirectForbidden bothStored 12 1 8 0
     ∷ ends (sendRequest 3 1 3)
     ∷ ends (sendPicture 3 1)
     ∷ loadGoes 7 1
     ∷ redirectGoes 7 1
     ∷ scriptGoes 7 1
     ∷ pictureGoes 7 1
-    -- So does its message endpoint: connection 2 has that of http alone among its writers, and connection 3 that of https.
-    ∷ loadRefused 1 2 9
-    ∷ redirectRefused 1 2 9
+    -- So does its message endpoint: connection 2 has that of http alone among its writers, connection 3 that of https, and connection 0 neither.
+    ∷ loadForbidden bothStored 1 2 9 17
+    ∷ redirectForbidden bothStored 1 2 9 17
+    ∷ loadForbidden bothStored 1 0 9 17
+    ∷ redirectForbidden bothStored 1 0 9 17
     ∷ ends (sendRequest 1 2 3)
     ∷ ends (sendPicture 1 2)
     ∷ loadGoes 1 3
@@ -111,7 +121,9 @@ casesOfAsking =
     ∷ scriptGoes 1 3
     ∷ pictureGoes 1 3
     -- And its writers, of which a load asks nothing: those of URL 6 are few, and those of URL 5 would do; the other way round with URL 2 and URL 8.
-    ∷ redirectRefused 5 1 9
+    -- URL 13 itself lacks writer 1.
+    ∷ redirectForbidden bothStored 5 1 9 0
+    ∷ redirectForbidden bothStored 13 1 9 0
     ∷ ends (sendRequest 5 1 3)
     ∷ ends (sendPicture 5 1)
     ∷ redirectGoes 8 1

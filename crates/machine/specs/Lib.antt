@@ -6,6 +6,7 @@ pub mod Cases
 pub mod MoreCases
 pub mod HttpsCases
 pub mod EntryCases
+pub mod MissingCases
 pub mod Guarantees
 pub mod Secrecy
 pub mod SecrecyExamples

@@ -6,13 +6,15 @@ use mathlib.Core.List.{List, [], _∷_, _++_, map}
 use lib.Dec.{ltb, eqb}
 use lib.ListN.{length, getD}
 use Rattle.prelude.specs.Choice.{branch, keep}
-use Rattle.prelude.specs.Refusals.{accepted, Refusal, refuse, firstOf}
+use Rattle.prelude.specs.Refusals.{accepted, Refusal, refuse, firstOf, answering}
+use Rattle.labels.specs.Membership.{noneMissing, isNone}
 use Rattle.records.specs.declared.Direction.the-variants.{Input, Request}
 use Rattle.records.specs.declared.Record.{Record}
 use Rattle.records.specs.Bytes.{bit}
 use Rattle.records.specs.Layout.{keyNumbers, cookiesBit, load, documentResponse, scriptResponse, pictureResponse, longest}
 use Rattle.records.specs.Codec.{readRefusals, decoded, writeRun}
-use Rattle.machine.specs.Policy.{urlHost, wellFormed, isUrl, upgraded, isConnection, fitReaders, fitWriters, redirectReaders, redirectWriters}
+use Rattle.machine.specs.Policy.{urlHost, wellFormed, isUrl, upgraded, isConnection}
+use Rattle.machine.specs.Policy.{fitMissingReader, fitMissingWriter, redirectMissingReader, redirectMissingWriter}
 use Rattle.machine.specs.Session.{free, documentKind, scriptKind, pictureKind, connectionWord, kindOf, originOf, handlerOf, urlOf, sound}
 use Rattle.machine.specs.Session.{has, Cookie, storeCookies, setConnection, Effects, send}
 use Rattle.machine.specs.Scripts.{stepLimit, tableBytes, isScript, stopped, runScript}
@@ -58,7 +60,7 @@ eventOf p r =
 abbrev pub eventIn : List ℕ → List ℕ → Event
 eventIn p bytes = eventOf p (decoded Input bytes .fields)
 
--- ---- the tests of an event: each refusal applies where its test fails
+-- ---- the tests of an event: a refusal applies where its test fails, and 8 and 9 where an endpoint is missing
 
 -- 6: every number that the record carries names something
 abbrev pub carriesNames : List ℕ → Arrived → Bool
@@ -87,22 +89,22 @@ unfoldable pub awaited : List ℕ → Event → Bool
 awaited s (Load u n) = true
 awaited s (Arrival u n cs what) = pending s n u && ofKind (kindOf (connectionWord s n)) what
 
--- a test of a redirect's target; a response has none
-abbrev pub ofTarget : (ℕ → Bool) → Arrived → Bool
-ofTarget test (DocumentResponse x) = true
-ofTarget test (ScriptResponse v) = true
-ofTarget test PictureResponse = true
-ofTarget test (Redirect t) = test t
+-- what is missing for a redirect's target; for a response none is
+abbrev pub toTarget : (ℕ → ℕ) → Arrived → ℕ
+toTarget missing (DocumentResponse x) = noneMissing
+toTarget missing (ScriptResponse v) = noneMissing
+toTarget missing PictureResponse = noneMissing
+toTarget missing (Redirect t) = missing t
 
--- 8: the conditions on readers
-unfoldable pub readersAllow : List ℕ → Event → Bool
-readersAllow p (Load u n) = fitReaders p n u
-readersAllow p (Arrival u n cs what) = ofTarget (redirectReaders p n) what
+-- 8: the conditions on readers, by the endpoint that is missing
+unfoldable pub missingReader : List ℕ → Event → ℕ
+missingReader p (Load u n) = fitMissingReader p n u
+missingReader p (Arrival u n cs what) = toTarget (redirectMissingReader p n) what
 
 -- 9: the conditions on writers
-unfoldable pub writersAllow : List ℕ → Event → Bool
-writersAllow p (Load u n) = fitWriters p n u
-writersAllow p (Arrival u n cs what) = ofTarget (redirectWriters p n) what
+unfoldable pub missingWriter : List ℕ → Event → ℕ
+missingWriter p (Load u n) = fitMissingWriter p n u
+missingWriter p (Arrival u n cs what) = toTarget (redirectMissingWriter p n) what
 
 -- ---- the numbers
 
@@ -136,34 +138,46 @@ writersForbid = 9
 abbrev pub outputRoom : ℕ
 outputRoom = stepLimit * longest Request
 
+-- a number, with the endpoint that is missing: 8 and 9 tell of one, and every other number of none
+pub record Verdict : Type 0 where
+  pub number : ℕ
+  pub missing : ℕ
+
+abbrev pub plain : ℕ → Verdict
+plain number = record { number = number; missing = noneMissing }
+
+-- refused where an endpoint is missing, and with it
+abbrev pub forbid : ℕ → ℕ → Refusal Verdict
+forbid number m = refuse (record { number = number; missing = m }) (not (isNone m))
+
 -- 1 to 4: what is lent, whatever the record says
-abbrev pub lentRefusals : List ℕ → List ℕ → List ℕ → List ℕ → List (Refusal ℕ)
+abbrev pub lentRefusals : List ℕ → List ℕ → List ℕ → List ℕ → List (Refusal Verdict)
 lentRefusals p scripts s out =
-    refuse outputShort (ltb (length out) outputRoom)
-    ∷ refuse policyBad (not (wellFormed p))
-    ∷ refuse scriptsBad (not (eqb (length scripts) tableBytes))
-    ∷ refuse stateUnsound (not (sound p s))
+    refuse (plain outputShort) (ltb (length out) outputRoom)
+    ∷ refuse (plain policyBad) (not (wellFormed p))
+    ∷ refuse (plain scriptsBad) (not (eqb (length scripts) tableBytes))
+    ∷ refuse (plain stateUnsound) (not (sound p s))
     ∷ []
 
 -- 7 to 9: an event that names something
-abbrev pub judgements : List ℕ → List ℕ → Event → List (Refusal ℕ)
+abbrev pub judgements : List ℕ → List ℕ → Event → List (Refusal Verdict)
 judgements p s event =
-    refuse notAwaited (not (awaited s event))
-    ∷ refuse readersForbid (not (readersAllow p event))
-    ∷ refuse writersForbid (not (writersAllow p event))
+    refuse (plain notAwaited) (not (awaited s event))
+    ∷ forbid readersForbid (missingReader p event)
+    ∷ forbid writersForbid (missingWriter p event)
     ∷ []
 
-abbrev pub eventRefusals : List ℕ → List ℕ → Event → List (Refusal ℕ)
-eventRefusals p s event = refuse nameUnknown (not (named p event)) ∷ judgements p s event
+abbrev pub eventRefusals : List ℕ → List ℕ → Event → List (Refusal Verdict)
+eventRefusals p s event = refuse (plain nameUnknown) (not (named p event)) ∷ judgements p s event
 
 -- all of them in their order: decoding's own, of a malformed record, stand between the two
-abbrev pub refusals : List ℕ → List ℕ → List ℕ → List ℕ → List ℕ → List (Refusal ℕ)
+abbrev pub refusals : List ℕ → List ℕ → List ℕ → List ℕ → List ℕ → List (Refusal Verdict)
 refusals p scripts s bytes out =
-    lentRefusals p scripts s out ++ (readRefusals Input bytes ++ eventRefusals p s (eventIn p bytes))
+    lentRefusals p scripts s out ++ (answering plain (readRefusals Input bytes) ++ eventRefusals p s (eventIn p bytes))
 
 -- the first that applies
-unfoldable pub refusal : List ℕ → List ℕ → List ℕ → List ℕ → List ℕ → ℕ
-refusal p scripts s bytes out = firstOf (refusals p scripts s bytes out) accepted
+unfoldable pub verdict : List ℕ → List ℕ → List ℕ → List ℕ → List ℕ → Verdict
+verdict p scripts s bytes out = firstOf (refusals p scripts s bytes out) (plain accepted)
 
 -- ---- what an accepted record does
 
@@ -181,16 +195,16 @@ unfoldable pub perform : List ℕ → List ℕ → List ℕ → Event → Effect
 perform p scripts s (Load u n) = send p n documentKind 0 0 u s
 perform p scripts s (Arrival u n cs what) = receive p scripts n (connectionWord s n) what (storeCookies p n (urlHost p u) cs s)
 
--- a record's number, and what it does
+-- what is answered to a record, and what it does
 pub record Outcome : Type 0 where
-  pub number : ℕ
+  pub verdict : Verdict
   pub effects : Effects
 
 unfoldable pub outcome : List ℕ → List ℕ → List ℕ → List ℕ → List ℕ → Outcome
 outcome p scripts s bytes out =
-    let number = refusal p scripts s bytes out in
+    let told = verdict p scripts s bytes out in
     let done = perform p scripts s (eventIn p bytes) in
-    record { number = number; effects = branch (eqb number accepted) done (stopped s) }
+    record { verdict = told; effects = branch (eqb (told .number) accepted) done (stopped s) }
 
 -- ---- feed
 
@@ -199,6 +213,7 @@ pub record Fed : Type 0 where
   pub number : ℕ
   pub bytes : ℕ
   pub steps : ℕ
+  pub missing : ℕ
   pub state : List ℕ
   pub buffer : List ℕ
 
@@ -209,9 +224,10 @@ feed p scripts s bytes out =
     let o = outcome p scripts s bytes out in
     let w = writeRun Request (o .effects .sent) out in
     record {
-      number = o .number;
+      number = o .verdict .number;
       bytes = w .length;
       steps = o .effects .steps;
+      missing = o .verdict .missing;
       state = o .effects .state;
       buffer = w .buffer;
     }

@@ -11,7 +11,7 @@ use Rattle.machine.specs.Machine.{outputRoom}
 use Rattle.machine.specs.Cases.{Words, url, cookieLabel, connection, policyWith}
 use Rattle.machine.specs.Cases.{scriptsWith, scriptIs, scriptOf, valueIs, keysAre, connectionIs}
 use Rattle.machine.specs.Cases.{loading, requesting, picturing, Call, Case, allRight}
-use Rattle.machine.specs.Cases.{call, refused, oneCall, oneRefused, policyP, fromEmpty, loadZero, sevenStored, caseA}
+use Rattle.machine.specs.Cases.{call, refused, forbidden, oneCall, oneRefused, oneForbidden, policyP, fromEmpty, loadZero, sevenStored, caseA}
 
 -- ---- document 01's other examples
 
@@ -49,7 +49,7 @@ otherExamples =
       scripts = scriptsWith [];
       room = outputRoom;
       start = loading 0 0 ∷ sevenStored;
-      calls = refused (0x03 ∷ 0x00 ∷ 0x01 ∷ []) 8 (loading 0 0 ∷ sevenStored) ∷ refused [] 10 (loading 0 0 ∷ sevenStored) ∷ [];
+      calls = forbidden (0x03 ∷ 0x00 ∷ 0x01 ∷ []) 8 1 (loading 0 0 ∷ sevenStored) ∷ refused [] 10 (loading 0 0 ∷ sevenStored) ∷ [];
     }
     ∷ []
 
@@ -156,10 +156,10 @@ casesOfConditions =
     -- A redirect of connection 1 where it is allowed, to URL 1.
     ∷ oneCall [] (loading 1 2 ∷ []) (0x23 ∷ 0x02 ∷ 0x01 ∷ 0x01 ∷ []) 0 0 (0x03 ∷ 0x01 ∷ 0x01 ∷ []) (loading 1 1 ∷ [])
     -- the event endpoint of URL 0 is not among its readers; its readers are not within those of URL 3
-    ∷ oneRefused (loading 1 2 ∷ []) (0x23 ∷ 0x02 ∷ 0x01 ∷ 0x00 ∷ []) 8
-    ∷ oneRefused (loading 1 2 ∷ []) (0x23 ∷ 0x02 ∷ 0x01 ∷ 0x03 ∷ []) 8
+    ∷ oneForbidden (loading 1 2 ∷ []) (0x23 ∷ 0x02 ∷ 0x01 ∷ 0x00 ∷ []) 8 2
+    ∷ oneForbidden (loading 1 2 ∷ []) (0x23 ∷ 0x02 ∷ 0x01 ∷ 0x03 ∷ []) 8 0
     -- the message endpoint of URL 1 is not among the writers of connection 3; case i has the other condition of 9
-    ∷ oneRefused (loading 3 2 ∷ []) (0x23 ∷ 0x02 ∷ 0x03 ∷ 0x01 ∷ []) 9
+    ∷ oneForbidden (loading 3 2 ∷ []) (0x23 ∷ 0x02 ∷ 0x03 ∷ 0x01 ∷ []) 9 1
     ∷ []
 
 -- ---- connections, handlers and attached cookies
@@ -271,9 +271,9 @@ casesOfPictures =
     }
     -- 8: the event endpoint of URL 0 is not among the connection's readers; its readers are not within those of URL 3. 9: the message endpoint of
     -- URL 1 is not among the writers of connection 3
-    ∷ oneRefused (picturing 1 2 ∷ []) (0x23 ∷ 0x02 ∷ 0x01 ∷ 0x00 ∷ []) 8
-    ∷ oneRefused (picturing 1 2 ∷ []) (0x23 ∷ 0x02 ∷ 0x01 ∷ 0x03 ∷ []) 8
-    ∷ oneRefused (picturing 3 2 ∷ []) (0x23 ∷ 0x02 ∷ 0x03 ∷ 0x01 ∷ []) 9
+    ∷ oneForbidden (picturing 1 2 ∷ []) (0x23 ∷ 0x02 ∷ 0x01 ∷ 0x00 ∷ []) 8 2
+    ∷ oneForbidden (picturing 1 2 ∷ []) (0x23 ∷ 0x02 ∷ 0x01 ∷ 0x03 ∷ []) 8 0
+    ∷ oneForbidden (picturing 3 2 ∷ []) (0x23 ∷ 0x02 ∷ 0x03 ∷ 0x01 ∷ []) 9 1
     -- A load replaces a picture.
     ∷ oneCall [] (picturing 1 1 ∷ []) (0x03 ∷ 0x02 ∷ 0x01 ∷ []) 0 0 (0x03 ∷ 0x02 ∷ 0x01 ∷ []) (loading 1 2 ∷ [])
     ∷ []
@@ -326,13 +326,14 @@ noRecord room scripts start number = record { scripts = scripts; room = room; st
 abbrev pub withShortPolicy : List Case
 withShortPolicy = noRecord 1183 shortTable strayBit 1 ∷ noRecord 1184 shortTable strayBit 2 ∷ []
 
--- 3, 4 and 10; 4 and 10; 6 and 7: there is no script 16, and the connection is free; 7 and 8: it is free, and the target is not allowed
+-- 3, 4 and 10; 4 and 10; 6 and 7: there is no script 16, and the connection is free; 7 and 8, 7 and 9: it is free, and the target is not allowed
 abbrev pub withPolicyP : List Case
 withPolicyP =
     noRecord 1184 shortTable strayBit 3
     ∷ noRecord 1184 (scriptsWith []) strayBit 4
     ∷ fromEmpty (refused (0x0b ∷ 0x00 ∷ 0x00 ∷ 0x10 ∷ []) 6 [] ∷ [])
     ∷ fromEmpty (refused (0x23 ∷ 0x00 ∷ 0x00 ∷ 0x02 ∷ []) 7 [] ∷ [])
+    ∷ fromEmpty (refused (0x23 ∷ 0x01 ∷ 0x01 ∷ 0x02 ∷ []) 7 [] ∷ [])
     ∷ []
 
 -- 4 and 10: a connection whose URL is 64, and one whose origin is. The words that follow the rows would make of 64 a URL that connection 5 fits.

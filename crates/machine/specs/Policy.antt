@@ -6,8 +6,8 @@ use mathlib.Core.List.{List}
 use lib.Dec.{ltb, leb, eqb}
 use lib.ListN.{length, getD}
 use Rattle.prelude.specs.Choice.{branch}
-use Rattle.labels.specs.Membership.{endpoints, allBelow}
-use Rattle.labels.specs.Sets.{holds, within}
+use Rattle.labels.specs.Membership.{endpoints, allBelow, noneMissing, isNone}
+use Rattle.labels.specs.Sets.{holds, within, missing, unheld}
 use Rattle.labels.specs.Addresses.{hosts, hostOf, messageEndpoint, eventEndpoint}
 
 -- ---- the words
@@ -147,15 +147,15 @@ upgraded p u = branch (ltb u urlRows && not (eqb (urlPartner p u) noPartner)) (u
 abbrev pub isConnection : ℕ → Bool
 isConnection n = ltb n connections
 
--- connection n fits URL u (002, T-LOAD): by readers, and by writers
-unfoldable pub fitReaders : List ℕ → ℕ → ℕ → Bool
-fitReaders p n u = within (connectionReaders p n) (urlReaders p u)
+-- Connection n fits URL u (002, T-LOAD) where none of its readers is missing among the URL's, nor the URL's message endpoint among its writers.
+unfoldable pub fitMissingReader : List ℕ → ℕ → ℕ → ℕ
+fitMissingReader p n u = missing (connectionReaders p n) (urlReaders p u)
 
-unfoldable pub fitWriters : List ℕ → ℕ → ℕ → Bool
-fitWriters p n u = holds (connectionWriters p n) (urlMessage p u)
+unfoldable pub fitMissingWriter : List ℕ → ℕ → ℕ → ℕ
+fitMissingWriter p n u = unheld (connectionWriters p n) (urlMessage p u)
 
 unfoldable pub fits : List ℕ → ℕ → ℕ → Bool
-fits p n u = fitReaders p n u && fitWriters p n u
+fits p n u = isNone (fitMissingReader p n u) && isNone (fitMissingWriter p n u)
 
 -- a cookie that a response or redirect on connection n delivers is stored
 unfoldable pub mayStore : List ℕ → ℕ → ℕ → Bool
@@ -175,9 +175,10 @@ mayRead p n c = within (scriptReaders p n) (cookieReaders p c) && within (cookie
 unfoldable pub mayWrite : List ℕ → ℕ → ℕ → Bool
 mayWrite p n c = within (cookieReaders p c) (scriptReaders p n) && within (connectionWriters p n) (cookieWriters p c)
 
--- writers may lead to URL u, by a redirect or by a script's request: they are among its own, or it is an entry
-unfoldable pub mayReach : List ℕ → ℕ → ℕ → Bool
-mayReach p writers u = isEntry p u || within writers (urlWriters p u)
+-- Writers may lead to URL u, by a redirect or by a script's request, where they are among its own, or it is an entry. Told is the lowest of them that
+-- is missing among its own, and none for an entry.
+unfoldable pub reachMissingWriter : List ℕ → ℕ → ℕ → ℕ
+reachMissingWriter p writers u = branch (isEntry p u) noneMissing (missing writers (urlWriters p u))
 
 -- steps 5 and 7: it requests URL u on connection m
 unfoldable pub maySend : List ℕ → ℕ → ℕ → ℕ → Bool
@@ -186,11 +187,16 @@ maySend p n u m =
     && (within (connectionReaders p m) (scriptReaders p n)
     && (fits p m u
     && (within (connectionWriters p n) (connectionWriters p m)
-    && mayReach p (connectionWriters p n) u)))
+    && isNone (reachMissingWriter p (connectionWriters p n) u))))
 
--- Of a load of u on connection n 8 and 9 ask whether n fits u. Of a redirect of connection n to t they ask, each in the order of its conditions:
-unfoldable pub redirectReaders : List ℕ → ℕ → ℕ → Bool
-redirectReaders p n t = holds (connectionReaders p n) (urlEvent p t) && fitReaders p n t
+-- What 8 and 9 ask is told by the endpoint that is missing, and holds where none is. Of a load of u on connection n they ask whether n fits u; of a
+-- redirect of connection n to t, besides, for t's event endpoint, and whether n's writers may lead to t. Of two conditions the first that fails
+-- tells.
+unfoldable pub firstMissing : ℕ → ℕ → ℕ
+firstMissing m next = branch (isNone m) next m
 
-unfoldable pub redirectWriters : List ℕ → ℕ → ℕ → Bool
-redirectWriters p n t = fitWriters p n t && mayReach p (connectionWriters p n) t
+unfoldable pub redirectMissingReader : List ℕ → ℕ → ℕ → ℕ
+redirectMissingReader p n t = firstMissing (unheld (connectionReaders p n) (urlEvent p t)) (fitMissingReader p n t)
+
+unfoldable pub redirectMissingWriter : List ℕ → ℕ → ℕ → ℕ
+redirectMissingWriter p n t = firstMissing (fitMissingWriter p n t) (reachMissingWriter p (connectionWriters p n) t)

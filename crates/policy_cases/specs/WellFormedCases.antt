@@ -11,7 +11,9 @@ use Rattle.machine.specs.EntryCases.{policyE}
 -- ---- listed hosts and partners
 
 abbrev pub noPartners : List Words
-noPartners = partner 1 noPartner ∷ partner 3 noPartner ∷ partner 5 noPartner ∷ partner 7 noPartner ∷ partner 8 noPartner ∷ []
+noPartners =
+    partner 1 noPartner ∷ partner 3 noPartner ∷ partner 5 noPartner ∷ partner 7 noPartner ∷ partner 8 noPartner
+    ∷ partner 12 noPartner ∷ partner 13 noPartner ∷ []
 
 -- R with these words changed
 abbrev pub notWellFormedR : List (List Words)
