@@ -4,7 +4,7 @@ use Rattle.prelude.proofs.Kit.{ℕ, _≤_, _<_, suc, _^_, true, List, _∷_, []
 use Rattle.prelude.proofs.Kit.{take, getD, areBytes}
 use native.Mathlib.Nat.{le-trans, mul-le-mul-right}
 use Rattle.prelude.specs.Choice.{branch}
-use Rattle.prelude.specs.Refusals.{accepted, firstOf}
+use Rattle.prelude.specs.Refusals.{accepted, firstOf, answering}
 use Rattle.prelude.proofs.Choices.{one}
 use Rattle.prelude.proofs.Refusals.{NoneOf, nth, first-is, none-applies, none-applied, refused-on}
 use Rattle.records.specs.declared.Direction.the-variants.{Input, Request}
@@ -12,12 +12,12 @@ use Rattle.records.specs.Layout.{longest}
 use Rattle.records.specs.Codec.{readRefusals, readRefusal, decoded, writeRun}
 use Rattle.records.proofs.Runs.{all-written}
 use Rattle.machine.specs.Scripts.{stopped}
-use Rattle.machine.specs.Machine.{eventIn, outputRoom, lentRefusals, eventRefusals, refusals, refusal, perform, outcome, Fed, feed}
+use Rattle.machine.specs.Machine.{eventIn, outputRoom, Verdict, plain, lentRefusals, eventRefusals, refusals, verdict, perform, outcome, Fed, feed}
 use Rattle.machine.specs.Guarantees.{refusedWith, areWords}
-use Rattle.machine.proofs.Accepted.{in-parts}
+use Rattle.machine.proofs.Accepted.{in-parts, event-passed}
 use Rattle.machine.proofs.Sending.{sent-fits}
 use Rattle.session.proofs.Outputs.{written-run}
-use Rattle.monitor.specs.Answers.{done, byNumber, reaction}
+use Rattle.monitor.specs.Answers.{done, byVerdict, reaction}
 
 -- ---- bytes and words
 pub bytes-are : (l : List ℕ) → ((i : ℕ) → getD l i 0 < 256) → T (areBytes l)
@@ -43,41 +43,44 @@ module _ (p scripts s bytes out : List ℕ) where
   unfolding feed
   bytes-small ts ws bs = sent-written ts ws bs .1
 
-  -- what a call does by its number
-  performed : refusal p scripts s bytes out ≡ accepted → T (areBytes scripts) → T (areWords s) → T (areBytes bytes)
+  -- what a call does by its verdict
+  performed : verdict p scripts s bytes out ≡ plain accepted → T (areBytes scripts) → T (areWords s) → T (areBytes bytes)
       → done (perform p scripts s (eventIn p bytes)) out ≡ feed p scripts s bytes out
   unfolding feed outcome branch done
   performed e ts ws bs = rw (e, written-run (perform p scripts s (eventIn p bytes) .sent) out (rw e at (sent-written ts ws bs .0)))
 
-  refused : (k : ℕ) → refusal p scripts s bytes out ≡ k → (k ≡ accepted → ⊥) → refusedWith k s out ≡ feed p scripts s bytes out
+  refused : (told : Verdict) → verdict p scripts s bytes out ≡ told → (told .number ≡ accepted → ⊥) → refusedWith told s out ≡ feed p scripts s bytes out
   unfolding feed outcome branch stopped writeRun
-  refused k e other = rw (e, ne-eqb k accepted other)
+  refused told e other = rw (e, ne-eqb (told .number) accepted other)
 
   -- refusal n of all of them, where it is the first that applies
-  pub refused-by : (n : ℕ) → NoneOf (take n (refusals p scripts s bytes out)) → nth accepted n (refusals p scripts s bytes out) .applies ≡ true
-      → (nth accepted n (refusals p scripts s bytes out) .answer ≡ accepted → ⊥)
-      → refusedWith (nth accepted n (refusals p scripts s bytes out) .answer) s out ≡ feed p scripts s bytes out
-  unfolding refusal
-  refused-by n none test other = refused (nth accepted n (refusals p scripts s bytes out) .answer) (first-is accepted n (refusals p scripts s bytes out) none test) other
+  abbrev answer : ℕ → Verdict
+  answer n = nth (plain accepted) n (refusals p scripts s bytes out) .answer
+
+  pub refused-by : (n : ℕ) → NoneOf (take n (refusals p scripts s bytes out)) → nth (plain accepted) n (refusals p scripts s bytes out) .applies ≡ true
+      → (answer n .number ≡ accepted → ⊥) → refusedWith (answer n) s out ≡ feed p scripts s bytes out
+  unfolding verdict
+  refused-by n none test other = refused (answer n) (first-is (plain accepted) n (refusals p scripts s bytes out) none test) other
 
   -- ---- what is lent is not refused
   module _ (none : NoneOf (lentRefusals p scripts s out)) where
-    from-record : refusal p scripts s bytes out ≡ firstOf (readRefusals Input bytes) (firstOf (eventRefusals p s (eventIn p bytes)) accepted)
+    from-record : verdict p scripts s bytes out ≡ firstOf (answering plain (readRefusals Input bytes)) (firstOf (eventRefusals p s (eventIn p bytes)) (plain accepted))
     from-record = in-parts p scripts s bytes out ∙ none-applies _ (lentRefusals p scripts s out) none
 
-    pub refused-record : (decoded Input bytes .number ≡ accepted → ⊥) → refusedWith (decoded Input bytes .number) s out ≡ feed p scripts s bytes out
+    pub refused-record : (decoded Input bytes .number ≡ accepted → ⊥) → refusedWith (plain (decoded Input bytes .number)) s out ≡ feed p scripts s bytes out
     unfolding decoded readRefusal
-    refused-record other = refused (readRefusal Input bytes) (from-record ∙ refused-on (readRefusals Input bytes) _ other) other
+    refused-record other = refused (plain (readRefusal Input bytes)) (from-record ∙ refused-on plain (readRefusals Input bytes) _ other) other
 
-    from-event : decoded Input bytes .number ≡ accepted → refusal p scripts s bytes out ≡ firstOf (eventRefusals p s (eventIn p bytes)) accepted
+    from-event : decoded Input bytes .number ≡ accepted → verdict p scripts s bytes out ≡ firstOf (eventRefusals p s (eventIn p bytes)) (plain accepted)
     unfolding decoded readRefusal
-    from-event read = from-record ∙ none-applies _ (readRefusals Input bytes) (none-applied (readRefusals Input bytes) tt read)
+    from-event read = from-record ∙ none-applies _ (answering plain (readRefusals Input bytes)) (none-applied (readRefusals Input bytes) tt read)
 
     pub reacted : decoded Input bytes .number ≡ accepted → T (areBytes scripts) → T (areWords s) → T (areBytes bytes)
         → reaction p scripts s (eventIn p bytes) out ≡ feed p scripts s bytes out
-    unfolding reaction byNumber
+    unfolding reaction byVerdict
     reacted read ts ws bs =
-        let number = firstOf (eventRefusals p s (eventIn p bytes)) accepted in
-        one (λ (x : Fed). x ≡ feed p scripts s bytes out) (eqb number accepted)
-        (λ t. performed (from-event read ∙ eqb→eq number accepted t) ts ws bs)
-        (λ t. refused number (from-event read) (λ e. T-not (eqb number accepted) t (rw e tt)))
+        let event = eventIn p bytes in
+        let told = firstOf (eventRefusals p s event) (plain accepted) in
+        one (λ (x : Fed). x ≡ feed p scripts s bytes out) (eqb (told .number) accepted)
+        (λ t. performed (from-event read ∙ none-applies (plain accepted) (eventRefusals p s event) (event-passed p s event (eqb→eq (told .number) accepted t))) ts ws bs)
+        (λ t. refused told (from-event read) (λ e. T-not (eqb (told .number) accepted) t (rw e tt)))

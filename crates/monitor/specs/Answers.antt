@@ -4,29 +4,30 @@ use mathlib.Core.List.{List}
 use lib.Dec.{eqb}
 use Rattle.prelude.specs.Choice.{branch}
 use Rattle.prelude.specs.Refusals.{accepted, firstOf}
+use Rattle.labels.specs.Membership.{noneMissing}
 use Rattle.machine.specs.Session.{Effects}
-use Rattle.machine.specs.Machine.{Event, eventRefusals, perform, Fed}
+use Rattle.machine.specs.Machine.{Event, Verdict, plain, eventRefusals, perform, Fed}
 use Rattle.machine.specs.Guarantees.{refusedWith}
 use Rattle.session.specs.Output.{output, writeEach}
 use Rattle.monitor.specs.declared.Answer.{Answer}
 use Rattle.monitor.specs.declared.answers.Done.{Done}
 
 abbrev pub answered : Answer → List ℕ → List ℕ → Fed
-answered r s out = record { number = r .number; bytes = r .bytes; steps = r .steps; state = s; buffer = out }
+answered r s out = record { number = r .number; bytes = r .bytes; steps = r .steps; missing = r .missing; state = s; buffer = out }
 
 abbrev pub fed : Done → List ℕ → List ℕ → Fed
-fed r s out = record { number = r .number; bytes = r .bytes; steps = r .steps; state = s; buffer = out }
+fed r s out = record { number = r .number; bytes = r .bytes; steps = r .steps; missing = r .missing; state = s; buffer = out }
 
 -- an accepted record, its requests written one after another
 unfoldable pub done : Effects → List ℕ → Fed
 done e out =
     let o = writeEach (e .sent) (output 0 out) in
-    record { number = accepted; bytes = o .at; steps = e .steps; state = e .state; buffer = o .buffer }
+    record { number = accepted; bytes = o .at; steps = e .steps; missing = noneMissing; state = e .state; buffer = o .buffer }
 
--- a call by its number: refused, or done
-unfoldable pub byNumber : ℕ → List ℕ → List ℕ → Fed → Fed
-byNumber number s out fed = branch (eqb number accepted) fed (refusedWith number s out)
+-- a call by its verdict: refused, or done
+unfoldable pub byVerdict : Verdict → List ℕ → List ℕ → Fed → Fed
+byVerdict told s out fed = branch (eqb (told .number) accepted) fed (refusedWith told s out)
 
 -- what a record that can be read is answered: the first of its event's refusals, or what it does
 unfoldable pub reaction : List ℕ → List ℕ → List ℕ → Event → List ℕ → Fed
-reaction p scripts s event out = byNumber (firstOf (eventRefusals p s event) accepted) s out (done (perform p scripts s event) out)
+reaction p scripts s event out = byVerdict (firstOf (eventRefusals p s event) (plain accepted)) s out (done (perform p scripts s event) out)

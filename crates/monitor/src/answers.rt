@@ -1,5 +1,7 @@
 // What is answered to a record, within the monitor.
 ghost use mathlib.Core.Path.{_≡_};
+ghost use Rattle.labels.specs.Membership.{noneMissing};
+use policy::NONE_MISSING;
 
 pub const ACCEPTED: u32 = 0;
 
@@ -19,18 +21,27 @@ pub const READERS_FORBID: u32 = 8;
 
 pub const WRITERS_FORBID: u32 = 9;
 
+// The endpoint that is missing comes with 8 and 9; every other answer has `NONE_MISSING`.
 pub struct Done {
     pub number: u32,
     pub bytes: usize,
     pub steps: u32,
+    pub missing: u32,
 }
 
 pub fn refused(number: u32) -> Done
-    ensures { λ r. ⌜ (r .number ≡ number) × (r .bytes ≡ 0) × (r .steps ≡ 0) ⌝ }
+    ensures { λ r. ⌜ (r .number ≡ number) × (r .bytes ≡ 0) × (r .steps ≡ 0) × (r .missing ≡ noneMissing) ⌝ }
+{
+    forbidden(number, NONE_MISSING)
+}
+
+pub fn forbidden(number: u32, missing: u32) -> Done
+    ensures { λ r. ⌜ (r .number ≡ number) × (r .bytes ≡ 0) × (r .steps ≡ 0) × (r .missing ≡ missing) ⌝ }
 {
     Done {
         number,
         bytes: 0,
         steps: 0,
+        missing,
     }
 }

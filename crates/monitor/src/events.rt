@@ -5,10 +5,10 @@ ghost use mathlib.Core.List.{List};
 ghost use Prim.Native.Nat.{ℕ, _<_};
 ghost use lib.Dec.{eqb};
 ghost use lib.ListN.{length};
-ghost use Rattle.machine.specs.Policy.{connections, isUrl, isConnection, redirectReaders, redirectWriters};
+ghost use Rattle.machine.specs.Policy.{connections, isUrl, isConnection, redirectMissingReader, redirectMissingWriter};
 ghost use Rattle.machine.specs.Session.{free, scriptCount, kindOf, originOf, handlerOf, urlOf, setConnection, send};
 ghost use Rattle.machine.specs.Scripts.{tableBytes, runScript};
-ghost use Rattle.machine.specs.Machine.{Load, carriesNames, ofKind, ofTarget, receive};
+ghost use Rattle.machine.specs.Machine.{Load, carriesNames, ofKind, toTarget, receive};
 ghost use Rattle.policy.specs.Given.{WellFormed, Url};
 ghost use Rattle.session.specs.Given.{Session};
 ghost use Rattle.monitor.specs.Answers.{fed, done, reaction};
@@ -20,12 +20,14 @@ use super::answers::NAME_UNKNOWN;
 use super::answers::NOT_AWAITED;
 use super::answers::READERS_FORBID;
 use super::answers::WRITERS_FORBID;
+use super::answers::forbidden;
 use super::answers::refused;
-use policy::fit_readers;
-use policy::fit_writers;
+use policy::NONE_MISSING;
+use policy::fit_missing_reader;
+use policy::fit_missing_writer;
 use policy::is_url;
-use policy::redirect_readers;
-use policy::redirect_writers;
+use policy::redirect_missing_reader;
+use policy::redirect_missing_writer;
 use policy::url_host;
 use policy::words::CONNECTIONS;
 use scripts::SCRIPT_BYTES;
@@ -86,17 +88,20 @@ pub fn load(
     if !is_named(policy, url, connection) {
         return refused(NAME_UNKNOWN);
     }
-    if !fit_readers(policy, connection, url) {
-        return refused(READERS_FORBID);
+    let reader = fit_missing_reader(policy, connection, url);
+    if reader != NONE_MISSING {
+        return forbidden(READERS_FORBID, reader);
     }
-    if !fit_writers(policy, connection, url) {
-        return refused(WRITERS_FORBID);
+    let writer = fit_missing_writer(policy, connection, url);
+    if writer != NONE_MISSING {
+        return forbidden(WRITERS_FORBID, writer);
     }
     let pending = Pending::bare(DOCUMENT, url);
     Done {
         number: ACCEPTED,
         bytes: send(policy, state, connection, pending, out, 0),
         steps: 0,
+        missing: NONE_MISSING,
     }
 }
 
@@ -127,6 +132,7 @@ fn respond(
         number: ACCEPTED,
         bytes: ran.written,
         steps: ran.steps,
+        missing: NONE_MISSING,
     }
 }
 
@@ -151,6 +157,7 @@ fn follow(
         number: ACCEPTED,
         bytes: send(policy, state, connection, pending, out, 0),
         steps: 0,
+        missing: NONE_MISSING,
     }
 }
 
@@ -180,28 +187,31 @@ fn of_kind(kind: u32, what: Arrived) -> bool
     }
 }
 
-// What 8 asks of a redirect's target, and what 9 asks; nothing of a response.
-fn readers_allow(policy: &[u32], connection: usize, what: Arrived) -> bool
-    requires { ⌜ WellFormed (now policy) × (connection < connections) × Names (now policy) what ⌝ }
-    ensures { λ r. ⌜ r ≡ ofTarget (redirectReaders (now (policy .entry)) connection) (told what) ⌝ }
-{
-    match what {
-        Arrived::DocumentResponse(_) => true,
-        Arrived::ScriptResponse(_) => true,
-        Arrived::PictureResponse => true,
-        Arrived::Redirect(target) => redirect_readers(policy, connection, target),
-    }
+// What is missing: a reader, which 8 tells, and a writer, which 9 tells.
+struct Missing {
+    reader: u32,
+    writer: u32,
 }
 
-fn writers_allow(policy: &[u32], connection: usize, what: Arrived) -> bool
+const NOTHING: Missing = Missing {
+    reader: NONE_MISSING,
+    writer: NONE_MISSING,
+};
+
+// What is missing for a redirect's target; for a response none is.
+fn target_missing(policy: &[u32], connection: usize, what: Arrived) -> Missing
     requires { ⌜ WellFormed (now policy) × (connection < connections) × Names (now policy) what ⌝ }
-    ensures { λ r. ⌜ r ≡ ofTarget (redirectWriters (now (policy .entry)) connection) (told what) ⌝ }
+    ensures { λ r. ⌜ (r .reader ≡ toTarget (redirectMissingReader (now (policy .entry)) connection) (told what))
+        × (r .writer ≡ toTarget (redirectMissingWriter (now (policy .entry)) connection) (told what)) ⌝ }
 {
     match what {
-        Arrived::DocumentResponse(_) => true,
-        Arrived::ScriptResponse(_) => true,
-        Arrived::PictureResponse => true,
-        Arrived::Redirect(target) => redirect_writers(policy, connection, target),
+        Arrived::DocumentResponse(_) => NOTHING,
+        Arrived::ScriptResponse(_) => NOTHING,
+        Arrived::PictureResponse => NOTHING,
+        Arrived::Redirect(target) => Missing {
+            reader: redirect_missing_reader(policy, connection, target),
+            writer: redirect_missing_writer(policy, connection, target),
+        },
     }
 }
 
@@ -249,6 +259,7 @@ fn receive(
                 number: ACCEPTED,
                 bytes: 0,
                 steps: 0,
+                missing: NONE_MISSING,
             }
         }
         Arrived::Redirect(target) => follow(policy, state, connection, word, target, out),
@@ -289,11 +300,12 @@ pub fn arrive(
     if !(holds_url(word, from.url) & of_kind(Pending::of(word).kind, what)) {
         return refused(NOT_AWAITED);
     }
-    if !readers_allow(policy, connection, what) {
-        return refused(READERS_FORBID);
+    let missing = target_missing(policy, connection, what);
+    if missing.reader != NONE_MISSING {
+        return forbidden(READERS_FORBID, missing.reader);
     }
-    if !writers_allow(policy, connection, what) {
-        return refused(WRITERS_FORBID);
+    if missing.writer != NONE_MISSING {
+        return forbidden(WRITERS_FORBID, missing.writer);
     }
     store(policy, state, from);
     receive(policy, scripts, state, connection, word, what, out)

@@ -12,12 +12,14 @@ use refusals::feed;
 
 pub const STATE_WORDS: usize = session::words::WORDS;
 
-// What a call answers: 0, the bytes of requests that it wrote and the script steps that it ran; or a refusal's number and zeros.
+// What a call answers: 0, the bytes of requests that it wrote and the script steps that it ran; or a refusal's number and zeros. Where readers or
+// writers forbid it, the endpoint that is missing, and else 32.
 #[repr(C)]
 pub struct Answer {
     pub number: u32,
     pub bytes: u32,
     pub steps: u32,
+    pub missing: u32,
 }
 
 // Feeds one record to the monitor: include/monitor.h. Every length and content is answered; a refusal changes nothing.
@@ -37,5 +39,6 @@ pub extern "C" fn monitor_feed(
         number: done.number,
         bytes: done.bytes as u32,
         steps: done.steps,
+        missing: done.missing,
     }
 }

@@ -2,10 +2,10 @@
 use Rattle.prelude.proofs.Kit.{ℕ, _≤_, _<_, _+_, arith, true, false, List, _≡_, sym, _∙_, subst, ne-eqb, le-ltb, lt-ltb, T, eqb, ltb→lt, not-T}
 use mathlib.Core.Bool.{and-false}
 use Rattle.prelude.proofs.Choices.{parts, branch-false}
-use Rattle.labels.specs.Membership.{endpoints}
-use Rattle.labels.specs.Sets.{holds, within}
+use Rattle.labels.specs.Membership.{endpoints, isNone}
+use Rattle.labels.specs.Sets.{holds, missing}
 use Rattle.labels.specs.Addresses.{hosts, eventSet}
-use Rattle.labels.proofs.Endpoints.{event-within}
+use Rattle.labels.proofs.Endpoints.{none-event}
 use Rattle.labels.proofs.Words.{empty-word, empty-holds}
 use Rattle.machine.specs.Policy.{urlRows, addressWord, urlAddress, urlHost, httpsHosts, urlPartner, noAddress, noPartner, emptyRow, isUrl, isReplaced, isPartner, partnerWellFormed}
 use Rattle.policy.proofs.Rows.{named-full}
@@ -22,9 +22,9 @@ module _ (p : List ℕ) (u : ℕ) where
   kept-https l = rw (le-ltb (urlAddress p u) hosts l)
 
   -- a URL by http
-  pub replaced-http : urlAddress p u < hosts → within (eventSet (urlAddress p u)) (httpsHosts p) ≡ isReplaced p u
+  pub replaced-http : urlAddress p u < hosts → isNone (missing (eventSet (urlAddress p u)) (httpsHosts p)) ≡ isReplaced p u
   unfolding isReplaced
-  replaced-http l = event-within (urlAddress p u) (httpsHosts p) (omega arith) ∙ rw (lt-ltb (urlAddress p u) hosts l)
+  replaced-http l = none-event (urlAddress p u) (httpsHosts p) (omega arith) ∙ rw (lt-ltb (urlAddress p u) hosts l)
 
   -- a number without a row, and one with a row
   pub partner-beyond : (v : ℕ) → urlRows ≤ v → false ≡ isPartner p u v

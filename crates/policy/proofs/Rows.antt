@@ -4,11 +4,11 @@ use Rattle.prelude.proofs.Kit.{le-ltb, lt-ltb, eq-eqb, T, eqb, ltb, ltb→lt, T
 use mathlib.Core.Bool.{or-false}
 use lib.Dec.{leb, leb→le, nleb→lt}
 use Rattle.prelude.proofs.Choices.{is-true, parts}
-use Rattle.labels.specs.Membership.{endpoints, allBelow}
-use Rattle.labels.specs.Sets.{holds, within}
+use Rattle.labels.specs.Membership.{endpoints, allBelow, isNone}
+use Rattle.labels.specs.Sets.{holds, within, missing}
 use Rattle.labels.specs.Addresses.{hosts, eventSet}
 use Rattle.labels.proofs.Below.{same, all-at, all-of, or-cases, or-l}
-use Rattle.labels.proofs.Endpoints.{event-within}
+use Rattle.labels.proofs.Endpoints.{none-event}
 use Rattle.labels.proofs.Words.{within-none}
 use Rattle.machine.specs.Policy.{policyWords, urlRows, connections, addressWord, urlAddress, urlReaders, urlWriters, urlEvent, httpsHosts, noAddress, emptyRow, isUrl, rowWellFormed, connectionWellFormed, partnerWellFormed, wellFormed}
 use Rattle.policy.specs.Given.{WellFormed, Url}
@@ -19,10 +19,10 @@ module _ (p : List ℕ) (u : ℕ) where
   pub named-full : urlAddress p u < endpoints → addressWord p u ≡ noAddress → ⊥
   named-full l e = absurd (omega (arith, address-word p u l))
 
-  pub row-named : urlAddress p u < endpoints → within (eventSet (urlAddress p u)) (urlReaders p u) ≡ rowWellFormed p u
+  pub row-named : urlAddress p u < endpoints → isNone (missing (eventSet (urlAddress p u)) (urlReaders p u)) ≡ rowWellFormed p u
   unfolding rowWellFormed emptyRow
   row-named l =
-      event-within (urlAddress p u) (urlReaders p u) l ∙ rw (ne-eqb (addressWord p u) noAddress (named-full l), lt-ltb (urlAddress p u) endpoints l)
+      none-event (urlAddress p u) (urlReaders p u) l ∙ rw (ne-eqb (addressWord p u) noAddress (named-full l), lt-ltb (urlAddress p u) endpoints l)
 
   -- the test of an empty row
   pub row-empty : urlReaders p u < 2 ^ 32 → urlWriters p u < 2 ^ 32

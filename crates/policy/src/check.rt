@@ -25,6 +25,7 @@ use super::words::url_partner;
 use super::words::url_readers;
 use super::words::url_writers;
 use labels::EndpointSet;
+use labels::NONE_MISSING;
 use labels::addresses::HOSTS;
 use labels::addresses::event_set;
 
@@ -42,8 +43,8 @@ fn row_empty(policy: &[u32], url: usize) -> bool
     ensures { λ r. ⌜ r ≡ emptyRow (now (policy .entry)) url ⌝ }
 {
     (address_word(policy, url) == NO_ADDRESS)
-        & url_readers(policy, url).within(EndpointSet::EMPTY)
-        & url_writers(policy, url).within(EndpointSet::EMPTY)
+        & (url_readers(policy, url).missing(EndpointSet::EMPTY) == NONE_MISSING)
+        & (url_writers(policy, url).missing(EndpointSet::EMPTY) == NONE_MISSING)
 }
 
 fn row_well_formed(policy: &[u32], url: usize) -> bool
@@ -53,7 +54,7 @@ fn row_well_formed(policy: &[u32], url: usize) -> bool
     if lacks_address(policy, url) {
         return row_empty(policy, url);
     }
-    event_set(url_address(policy, url)).within(url_readers(policy, url))
+    event_set(url_address(policy, url)).missing(url_readers(policy, url)) == NONE_MISSING
 }
 
 // Two words that lie side by side as one, which the compiler reads at once.
@@ -120,8 +121,8 @@ fn connections_well_formed(policy: &[u32]) -> bool
 {
     let mut passed = true;
     for connection in 0..CONNECTIONS {
-        passed = script_readers(policy, connection).within(connection_readers(policy, connection))
-            & passed;
+        let readers = connection_readers(policy, connection);
+        passed = (script_readers(policy, connection).missing(readers) == NONE_MISSING) & passed;
     }
     passed
 }
@@ -146,7 +147,7 @@ fn is_replaced(policy: &[u32], url: usize) -> bool
     if !by_http(policy, url) {
         return false;
     }
-    event_set(url_address(policy, url)).within(https_hosts(policy))
+    event_set(url_address(policy, url)).missing(https_hosts(policy)) == NONE_MISSING
 }
 
 // Whether a number names a URL by https at the host of `url`.

@@ -4,10 +4,10 @@ ghost use mathlib.Core.Path.{_≡_};
 ghost use mathlib.Core.Bool.{true};
 ghost use Prim.Native.Nat.{_<_};
 ghost use Rattle.labels.specs.Addresses.{hosts};
-ghost use Rattle.labels.specs.Sets.{holds};
+ghost use Rattle.labels.specs.Sets.{unheld};
 ghost use Rattle.machine.specs.Policy.{hostKeys, connections, cookieIndex, urlHost, urlMessage, urlEvent, isUrl, upgraded};
-ghost use Rattle.machine.specs.Policy.{fitReaders, fitWriters, fits, mayStore, mayCarry, mayRead, mayWrite, mayReach, maySend};
-ghost use Rattle.machine.specs.Policy.{redirectReaders, redirectWriters};
+ghost use Rattle.machine.specs.Policy.{fitMissingReader, fitMissingWriter, fits, mayStore, mayCarry, mayRead, mayWrite, maySend};
+ghost use Rattle.machine.specs.Policy.{reachMissingWriter, firstMissing, redirectMissingReader, redirectMissingWriter};
 ghost use Rattle.machine.specs.Session.{keyMap};
 ghost use Rattle.policy.specs.Given.{WellFormed, Url};
 
@@ -15,6 +15,7 @@ pub mod check;
 pub mod words;
 
 use labels::EndpointSet;
+pub use labels::NONE_MISSING;
 use labels::addresses::event_set;
 use labels::addresses::message_set;
 use words::HOST_KEYS;
@@ -66,41 +67,42 @@ pub fn url_host(policy: &[u32], url: usize) -> usize
     url_address(policy, url) as usize % HOSTS
 }
 
-// Whether a set holds the message endpoint of a URL, and whether it holds the event endpoint: the endpoint's own set is within it.
-fn message_in(policy: &[u32], url: usize, set: EndpointSet) -> bool
+// The message endpoint of a URL, and its event endpoint, where a set lacks it: what is missing of the endpoint's own set.
+fn message_missing(policy: &[u32], url: usize, set: EndpointSet) -> u32
     requires { ⌜ WellFormed (now policy) × Url (now policy) url ⌝ }
-    ensures { λ r. ⌜ r ≡ holds (set .bits) (urlMessage (now (policy .entry)) url) ⌝ }
+    ensures { λ r. ⌜ r ≡ unheld (set .bits) (urlMessage (now (policy .entry)) url) ⌝ }
 {
-    message_set(url_address(policy, url)).within(set)
+    message_set(url_address(policy, url)).missing(set)
 }
 
-fn event_in(policy: &[u32], url: usize, set: EndpointSet) -> bool
+fn event_missing(policy: &[u32], url: usize, set: EndpointSet) -> u32
     requires { ⌜ WellFormed (now policy) × Url (now policy) url ⌝ }
-    ensures { λ r. ⌜ r ≡ holds (set .bits) (urlEvent (now (policy .entry)) url) ⌝ }
+    ensures { λ r. ⌜ r ≡ unheld (set .bits) (urlEvent (now (policy .entry)) url) ⌝ }
 {
-    event_set(url_address(policy, url)).within(set)
+    event_set(url_address(policy, url)).missing(set)
 }
 
-// 002, T-LOAD: a connection fits a URL, by readers and by writers.
-pub fn fit_readers(policy: &[u32], connection: usize, url: usize) -> bool
+// 002, T-LOAD: what is missing for a connection to fit a URL, and whether it fits.
+pub fn fit_missing_reader(policy: &[u32], connection: usize, url: usize) -> u32
     requires { ⌜ WellFormed (now policy) × (connection < connections) × Url (now policy) url ⌝ }
-    ensures { λ r. ⌜ r ≡ fitReaders (now (policy .entry)) connection url ⌝ }
+    ensures { λ r. ⌜ r ≡ fitMissingReader (now (policy .entry)) connection url ⌝ }
 {
-    connection_readers(policy, connection).within(url_readers(policy, url))
+    connection_readers(policy, connection).missing(url_readers(policy, url))
 }
 
-pub fn fit_writers(policy: &[u32], connection: usize, url: usize) -> bool
+pub fn fit_missing_writer(policy: &[u32], connection: usize, url: usize) -> u32
     requires { ⌜ WellFormed (now policy) × (connection < connections) × Url (now policy) url ⌝ }
-    ensures { λ r. ⌜ r ≡ fitWriters (now (policy .entry)) connection url ⌝ }
+    ensures { λ r. ⌜ r ≡ fitMissingWriter (now (policy .entry)) connection url ⌝ }
 {
-    message_in(policy, url, connection_writers(policy, connection))
+    message_missing(policy, url, connection_writers(policy, connection))
 }
 
 pub fn fits(policy: &[u32], connection: usize, url: usize) -> bool
     requires { ⌜ WellFormed (now policy) × (connection < connections) × Url (now policy) url ⌝ }
     ensures { λ r. ⌜ r ≡ fits (now (policy .entry)) connection url ⌝ }
 {
-    fit_readers(policy, connection, url) & fit_writers(policy, connection, url)
+    (fit_missing_reader(policy, connection, url) == NONE_MISSING)
+        & (fit_missing_writer(policy, connection, url) == NONE_MISSING)
 }
 
 // The keys of the cookies that a request to a URL may carry, bit k for key k: their readers hold the URL's message endpoint.
@@ -112,7 +114,8 @@ pub fn carried_keys(policy: &[u32], url: usize) -> u8
     let message = message_set(url_address(policy, url));
     let mut keys = 0u32;
     for key in 0..HOST_KEYS {
-        keys = keys + ((message.within(cookie_readers(policy, host, key)) as u32) << key);
+        let carried = message.missing(cookie_readers(policy, host, key)) == NONE_MISSING;
+        keys = keys + ((carried as u32) << key);
     }
     keys as u8
 }
@@ -122,8 +125,10 @@ pub fn may_store(policy: &[u32], connection: usize, host: usize, key: usize) -> 
     requires { ⌜ WellFormed (now policy) × (connection < connections) × (host < hosts) × (key < hostKeys) ⌝ }
     ensures { λ r. ⌜ r ≡ mayStore (now (policy .entry)) connection (cookieIndex host key) ⌝ }
 {
-    cookie_readers(policy, host, key).within(connection_readers(policy, connection))
-        & connection_writers(policy, connection).within(cookie_writers(policy, host, key))
+    let readers = cookie_readers(policy, host, key);
+    let writers = connection_writers(policy, connection);
+    (readers.missing(connection_readers(policy, connection)) == NONE_MISSING)
+        & (writers.missing(cookie_writers(policy, host, key)) == NONE_MISSING)
 }
 
 // Step 3, by a script of a response on the connection.
@@ -131,8 +136,10 @@ pub fn may_read(policy: &[u32], connection: usize, host: usize, key: usize) -> b
     requires { ⌜ WellFormed (now policy) × (connection < connections) × (host < hosts) × (key < hostKeys) ⌝ }
     ensures { λ r. ⌜ r ≡ mayRead (now (policy .entry)) connection (cookieIndex host key) ⌝ }
 {
-    script_readers(policy, connection).within(cookie_readers(policy, host, key))
-        & cookie_writers(policy, host, key).within(connection_writers(policy, connection))
+    let readers = script_readers(policy, connection);
+    let writers = cookie_writers(policy, host, key);
+    (readers.missing(cookie_readers(policy, host, key)) == NONE_MISSING)
+        & (writers.missing(connection_writers(policy, connection)) == NONE_MISSING)
 }
 
 // Step 4.
@@ -140,16 +147,22 @@ pub fn may_write(policy: &[u32], connection: usize, host: usize, key: usize) -> 
     requires { ⌜ WellFormed (now policy) × (connection < connections) × (host < hosts) × (key < hostKeys) ⌝ }
     ensures { λ r. ⌜ r ≡ mayWrite (now (policy .entry)) connection (cookieIndex host key) ⌝ }
 {
-    cookie_readers(policy, host, key).within(script_readers(policy, connection))
-        & connection_writers(policy, connection).within(cookie_writers(policy, host, key))
+    let readers = cookie_readers(policy, host, key);
+    let writers = connection_writers(policy, connection);
+    (readers.missing(script_readers(policy, connection)) == NONE_MISSING)
+        & (writers.missing(cookie_writers(policy, host, key)) == NONE_MISSING)
 }
 
-// Whether writers may lead to a URL, by a redirect or by a script's request.
-fn may_reach(policy: &[u32], writers: EndpointSet, url: usize) -> bool
+// Of writers that lead to a URL, by a redirect or by a script's request, the lowest that is missing among its own; none of an entry.
+fn reach_missing_writer(policy: &[u32], writers: EndpointSet, url: usize) -> u32
     requires { ⌜ WellFormed (now policy) × Url (now policy) url ⌝ }
-    ensures { λ r. ⌜ r ≡ mayReach (now (policy .entry)) (writers .bits) url ⌝ }
+    ensures { λ r. ⌜ r ≡ reachMissingWriter (now (policy .entry)) (writers .bits) url ⌝ }
 {
-    is_entry(policy, url) | writers.within(url_writers(policy, url))
+    let missing = writers.missing(url_writers(policy, url));
+    if is_entry(policy, url) {
+        return NONE_MISSING;
+    }
+    missing
 }
 
 // Steps 5 and 7: a script of a response on `connection` requests a URL on the connection `via`.
@@ -159,26 +172,38 @@ pub fn may_send(policy: &[u32], connection: usize, url: usize, via: usize) -> bo
 {
     let readers = script_readers(policy, connection);
     let writers = connection_writers(policy, connection);
-    event_in(policy, url, readers)
-        & connection_readers(policy, via).within(readers)
-        & fits(policy, via, url)
-        & writers.within(connection_writers(policy, via))
-        & may_reach(policy, writers, url)
+    // The two questions about the readers of `via` stand side by side: the compiler makes one of them.
+    (event_missing(policy, url, readers) == NONE_MISSING)
+        & ((connection_readers(policy, via).missing(readers) == NONE_MISSING)
+            & fits(policy, via, url))
+        & (writers.missing(connection_writers(policy, via)) == NONE_MISSING)
+        & (reach_missing_writer(policy, writers, url) == NONE_MISSING)
 }
 
-// What 8 and 9 ask of a redirect to a target.
-pub fn redirect_readers(policy: &[u32], connection: usize, target: usize) -> bool
-    requires { ⌜ WellFormed (now policy) × (connection < connections) × Url (now policy) target ⌝ }
-    ensures { λ r. ⌜ r ≡ redirectReaders (now (policy .entry)) connection target ⌝ }
+// Of two conditions the first that fails tells.
+fn first_missing(missing: u32, next: u32) -> u32
+    ensures { λ r. ⌜ r ≡ firstMissing missing next ⌝ }
 {
-    event_in(policy, target, connection_readers(policy, connection))
-        & fit_readers(policy, connection, target)
+    if missing == NONE_MISSING {
+        return next;
+    }
+    missing
 }
 
-pub fn redirect_writers(policy: &[u32], connection: usize, target: usize) -> bool
+// What 8 and 9 ask of a redirect to a target: the endpoint that is missing.
+pub fn redirect_missing_reader(policy: &[u32], connection: usize, target: usize) -> u32
     requires { ⌜ WellFormed (now policy) × (connection < connections) × Url (now policy) target ⌝ }
-    ensures { λ r. ⌜ r ≡ redirectWriters (now (policy .entry)) connection target ⌝ }
+    ensures { λ r. ⌜ r ≡ redirectMissingReader (now (policy .entry)) connection target ⌝ }
 {
-    fit_writers(policy, connection, target)
-        & may_reach(policy, connection_writers(policy, connection), target)
+    let event = event_missing(policy, target, connection_readers(policy, connection));
+    first_missing(event, fit_missing_reader(policy, connection, target))
+}
+
+pub fn redirect_missing_writer(policy: &[u32], connection: usize, target: usize) -> u32
+    requires { ⌜ WellFormed (now policy) × (connection < connections) × Url (now policy) target ⌝ }
+    ensures { λ r. ⌜ r ≡ redirectMissingWriter (now (policy .entry)) connection target ⌝ }
+{
+    let message = fit_missing_writer(policy, connection, target);
+    let writers = connection_writers(policy, connection);
+    first_missing(message, reach_missing_writer(policy, writers, target))
 }

@@ -1,6 +1,7 @@
 -- What a step of the definition leaves, for each way in which its code goes on or ends.
 use Rattle.prelude.proofs.Kit.{ℕ, _≤_, _<_, _+_, suc, _*_, add-zero, true, _&&_, Bool, false, false≢true, List, _≡_, sym, _∙_, refl, ap}
 use Rattle.prelude.proofs.Kit.{ne-eqb, le-ltb, lt-ltb, getD, set}
+use mathlib.Core.Bool.{and-comm}
 use borrow.Author.Tests.{ltb-true}
 use Rattle.prelude.specs.Choice.{branch}
 use Rattle.prelude.proofs.Choices.{chosen, left-out}
@@ -77,17 +78,17 @@ module _ (p : List ℕ) (n page i : ℕ) (rs s : List ℕ) where
         (fails (isRegister a) (ap (λ (b : Bool). b && (mayRead p n (cookieIndex (urlHost p page) k) && present s (urlHost p page) k)) (le-ltb k hostKeys l))) refl (stops rs s e)
 
     module _ (l : k < hostKeys) (h : ℕ) (may there : Bool) (eh : h ≡ urlHost p page) (em : may ≡ mayRead p n (cookieIndex h k)) (et : there ≡ present s h k) where
-      test-is : isRegister a && (may && there) ≡ isRegister a && (isKey k && (mayRead p n (cookieIndex (urlHost p page) k) && present s (urlHost p page) k))
-      test-is = rw (lt-ltb k hostKeys l, ← eh, em, et)
+      test-is : isRegister a && (there && may) ≡ isRegister a && (isKey k && (mayRead p n (cookieIndex (urlHost p page) k) && present s (urlHost p page) k))
+      test-is = rw (lt-ltb k hostKeys l, ← eh, em, et) (ap (λ (b : Bool). isRegister a && b) (and-comm (present s h k) (mayRead p n (cookieIndex h k))))
 
-      pub read-goes-on : {j : ℕ} → (v : ℕ) → isRegister a && (may && there) ≡ true → v ≡ cookieValue s (cookieIndex h k) → j ≡ suc i + 0
+      pub read-goes-on : {j : ℕ} → (v : ℕ) → isRegister a && (there && may) ≡ true → v ≡ cookieValue s (cookieIndex h k) → j ≡ suc i + 0
           → goesOn j (set rs a v) s ≡ step p n page (readCookie a k) i rs s
       unfolding step
-      read-goes-on v t ev e = chosen (isRegister a && (may && there)) _ _ _ test-is t (next i (set rs a v) s e ∙ rw (ev, eh))
+      read-goes-on v t ev e = chosen (isRegister a && (there && may)) _ _ _ test-is t (next i (set rs a v) s e ∙ rw (ev, eh))
 
-      pub read-ends : {j : ℕ} → isRegister a && (may && there) ≡ false → j ≡ scriptSteps → goesOn j rs s ≡ step p n page (readCookie a k) i rs s
+      pub read-ends : {j : ℕ} → isRegister a && (there && may) ≡ false → j ≡ scriptSteps → goesOn j rs s ≡ step p n page (readCookie a k) i rs s
       unfolding step
-      read-ends t e = left-out (isRegister a && (may && there)) _ _ _ test-is t (stops rs s e)
+      read-ends t e = left-out (isRegister a && (there && may)) _ _ _ test-is t (stops rs s e)
 
   -- step 4
   module _ (k b : ℕ) where

@@ -105,7 +105,7 @@ fn read_cookie(
     }
     let host = url_host(policy, page);
     if (register < REGISTERS)
-        & (may_read(policy, connection, host, key) & is_present(state, host, key))
+        & (is_present(state, host, key) & may_read(policy, connection, host, key))
     {
         registers[register] = cookie_value(state, host, key);
         return position.after(0);

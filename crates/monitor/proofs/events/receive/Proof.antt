@@ -1,6 +1,7 @@
 -- `events::receive` meets its contract: what each that can arrive does.
 use Rattle.prelude.proofs.Kit.{ℕ, List, _≡_, sym, subst, needs, now}
 use Rattle.prelude.specs.Refusals.{accepted}
+use Rattle.labels.specs.Membership.{noneMissing}
 use Rattle.machine.specs.Session.{free, kindOf, originOf, handlerOf, urlOf, setConnection, send}
 use Rattle.machine.specs.Scripts.{stopped, runScript}
 use Rattle.machine.specs.Machine.{receive, Fed}
@@ -30,7 +31,7 @@ module _ (p scripts s : List ℕ) (n word : ℕ) (out : List ℕ) {what : Arrive
   redirect e h = rw e h
 
 picture : (p scripts s : List ℕ) (n word : ℕ) (out : List ℕ) {what : Arrived} {freed : List ℕ} → what ≡ PictureResponse → freed ≡ setConnection n free s
-    → fed (record { number = accepted; bytes = 0; steps = 0 }) freed out ≡ done (receive p scripts n word (told what) s) out
+    → fed (record { number = accepted; bytes = 0; steps = 0; missing = noneMissing }) freed out ≡ done (receive p scripts n word (told what) s) out
 unfolding receive done stopped writeEach
 picture p scripts s n word out e g = rw (e, g)
 

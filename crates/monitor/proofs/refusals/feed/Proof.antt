@@ -7,7 +7,7 @@ use Rattle.records.specs.declared.Decoded.{Decoded}
 use Rattle.records.specs.Codec.{decoded}
 use Rattle.records.proofs.RoundTrips.{longest-is}
 use Rattle.machine.specs.Scripts.{tableBytes}
-use Rattle.machine.specs.Machine.{eventOf, outputRoom, lentRefusals}
+use Rattle.machine.specs.Machine.{eventOf, outputRoom, plain, lentRefusals}
 use Rattle.policy.specs.Given.{WellFormed}
 use Rattle.monitor.specs.Answers.{reaction}
 use Rattle.monitor.specs.Given.{Lent}
@@ -65,7 +65,7 @@ lent m =
 returns : tie.Need-returns
 returns c =
     let a = c .before .before .before .before .before .before .before .args in
-    as-refused (c .refused .result) 1 (now (a .state)) (now (a .out)) (c .refused .ensures)
+    as-refused (c .refused .result) (plain 1) (now (a .state)) (now (a .out)) (c .refused .ensures)
     ∙ refused-by (now (a .policy)) (now (a .scripts)) (now (a .state)) (now (a .bytes)) (now (a .out)) 0 tt
     (lt-ltb (length (now (a .out))) outputRoom (rw (longest-is .1) (c .before .if1 .taken))) (omega arith)
 
@@ -73,7 +73,7 @@ returns-2 : tie.Need-returns-2
 returns-2 c =
     let m = c .before .before in
     let a = start (m .before) .args in
-    as-refused (c .refused2 .result) 2 (now (a .state)) (now (a .out)) (c .refused2 .ensures)
+    as-refused (c .refused2 .result) (plain 2) (now (a .state)) (now (a .out)) (c .refused2 .ensures)
     ∙ refused-by (now (a .policy)) (now (a .scripts)) (now (a .state)) (now (a .bytes)) (now (a .out)) 1 (room (m .before))
     (ap not (sym (m .well-formed .ensures .0) ∙ not-true (m .well-formed .result) (c .before .if2 .taken))) (omega arith)
 
@@ -81,7 +81,7 @@ returns-3 : tie.Need-returns-3
 returns-3 c =
     let m = c .before .before in
     let a = start (first m) .args in
-    as-refused (c .refused3 .result) 3 (now (a .state)) (now (a .out)) (c .refused3 .ensures)
+    as-refused (c .refused3 .result) (plain 3) (now (a .state)) (now (a .out)) (c .refused3 .ensures)
     ∙ refused-by (now (a .policy)) (now (a .scripts)) (now (a .state)) (now (a .bytes)) (now (a .out)) 2 (policy m)
     (ap not (ne-eqb (length (now (a .scripts))) tableBytes (c .before .if3 .taken))) (omega arith)
 
@@ -93,7 +93,7 @@ returns-4 c =
     let m = c .before .before in
     let third = m .before .before in
     let a = start (first (third .before)) .args in
-    as-refused (c .refused4 .result) 4 (now (a .state)) (now (a .out)) (c .refused4 .ensures)
+    as-refused (c .refused4 .result) (plain 4) (now (a .state)) (now (a .out)) (c .refused4 .ensures)
     ∙ refused-by (now (a .policy)) (now (a .scripts)) (now (a .state)) (now (a .bytes)) (now (a .out)) 3 (table third)
     (ap not (sym (m .sound .ensures) ∙ not-true (m .sound .result) (c .before .if4 .taken))) (omega arith)
 
@@ -103,8 +103,8 @@ returns-5 c =
     let m = read .before in
     let a = begin m .args in
     let number = ap (λ (d : Decoded). d .number) (read .decode .ensures) in
-    let (told, bytes, steps) = c .refused5 .ensures in
-    as-refused (c .refused5 .result) (decoded Input (now (a .bytes)) .number) (now (a .state)) (now (a .out)) (told ∙ number, bytes, steps)
+    let (told, bytes, steps, missing) = c .refused5 .ensures in
+    as-refused (c .refused5 .result) (plain (decoded Input (now (a .bytes)) .number)) (now (a .state)) (now (a .out)) (told ∙ number, bytes, steps, missing)
     ∙ refused-record (now (a .policy)) (now (a .scripts)) (now (a .state)) (now (a .bytes)) (now (a .out)) (state m) (λ e. c .before .if5 .taken (number ∙ e))
 
 react-requires : tie.Need-react-requires

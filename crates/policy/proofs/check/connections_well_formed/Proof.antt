@@ -2,6 +2,7 @@
 use Rattle.prelude.proofs.Kit.{_≤_, _-_, zero-le, arith, _≡_, needs}
 use Rattle.labels.specs.Membership.{allBelow}
 use Rattle.labels.proofs.Below.{all-none, all-next}
+use Rattle.labels.proofs.Membership.{none-missing}
 use Rattle.machine.specs.Policy.{connections, connectionWellFormed}
 use Rattle.policy.proofs.check.connections_well_formed.Statement.{statement}
 use Rattle.policy.proofs.check.connections_well_formed.Tie as tie
@@ -24,7 +25,7 @@ loop-less c = search needs
 loop-again : tie.Need-loop-again Inv-loop μ-loop
 unfolding connectionWellFormed
 loop-again c =
-    (omega arith, rw (c .within .ensures, c .before .before .script-readers .ensures, c .before .connection-readers .ensures, c .before .before .before .before .loop .inv .1) (all-next _ _))
+    (omega arith, rw (c .missing .ensures, none-missing, c .before .script-readers .ensures, c .before .before .connection-readers .ensures, c .before .before .before .before .loop .inv .1) (all-next _ _))
 
 returns : tie.Need-returns Inv-loop μ-loop
 returns c = let past : c .before .loop .connection ≡ connections = omega arith in rw past at (c .before .loop .inv .1)

@@ -27,7 +27,7 @@ returns-2 c =
     let first = c .before .before .before in
     let m = first .before in
     let a = m .before .before .before .args in
-    rw (c .within .ensures, c .before .https-hosts .ensures, c .before .before .event-set .ensures, first .url-address .ensures)
+    rw (c .missing .ensures, c .before .https-hosts .ensures, c .before .before .event-set .ensures, first .url-address .ensures)
     (replaced-http (now (a .policy)) (a .url) (is-http m))
 
 pub is-replaced-spec : {M : Type 1} → statement M

@@ -27,7 +27,7 @@ returns-2 c =
     let first = c .before .before .before in
     let m = first .before in
     let a = m .before .before .before .args in
-    rw (c .within .ensures, c .before .url-readers .ensures, c .before .before .event-set .ensures, first .url-address .ensures) (row-named (now (a .policy)) (a .url) (named m))
+    rw (c .missing .ensures, c .before .url-readers .ensures, c .before .before .event-set .ensures, first .url-address .ensures) (row-named (now (a .policy)) (a .url) (named m))
 
 pub row-well-formed-spec : {M : Type 1} → statement M
 row-well-formed-spec =

@@ -5,7 +5,7 @@ use Rattle.scripts.proofs.OneStep.{named, read-no-key, read-goes-on, re
 use Rattle.scripts.proofs.steps.read_cookie.Statement.{statement}
 use Rattle.scripts.proofs.steps.read_cookie.Tie as tie
 
-abbrev start : tie.After-is-present → tie.Start
+abbrev start : tie.After-may-read → tie.Start
 start m = m .before .before .before .before .before .before .before
 
 returns : tie.Need-returns
@@ -29,8 +29,8 @@ returns-2 c =
     let m = c .before .before .before in
     let a = start m .args in
     let host = m .before .before in (
-      read-goes-on (now (a .policy)) (a .connection) (a .page) (a .position .place) (now (a .registers)) (now (a .state)) (a .register) (a .key) (host .before .if1 .left) (host .url-host .result) (m .before .may-read .result) (m .is-present .result)
-          (host .url-host .ensures .0) (m .before .may-read .ensures) (m .is-present .ensures) (c .before .cookie-value .result) (c .before .before .if2 .taken) (c .before .cookie-value .ensures) (c .after .ensures .0),
+      read-goes-on (now (a .policy)) (a .connection) (a .page) (a .position .place) (now (a .registers)) (now (a .state)) (a .register) (a .key) (host .before .if1 .left) (host .url-host .result) (m .may-read .result) (m .before .is-present .result)
+          (host .url-host .ensures .0) (m .may-read .ensures) (m .before .is-present .ensures) (c .before .cookie-value .result) (c .before .before .if2 .taken) (c .before .cookie-value .ensures) (c .after .ensures .0),
       c .after .ensures .1,
     )
 
@@ -39,8 +39,8 @@ returns-3 c =
     let m = c .before .before in
     let a = start m .args in
     let host = m .before .before in (
-      read-ends (now (a .policy)) (a .connection) (a .page) (a .position .place) (now (a .registers)) (now (a .state)) (a .register) (a .key) (host .before .if1 .left) (host .url-host .result) (m .before .may-read .result) (m .is-present .result)
-          (host .url-host .ensures .0) (m .before .may-read .ensures) (m .is-present .ensures) (c .before .if2 .left) (c .ended2 .ensures .0),
+      read-ends (now (a .policy)) (a .connection) (a .page) (a .position .place) (now (a .registers)) (now (a .state)) (a .register) (a .key) (host .before .if1 .left) (host .url-host .result) (m .may-read .result) (m .before .is-present .result)
+          (host .url-host .ensures .0) (m .may-read .ensures) (m .before .is-present .ensures) (c .before .if2 .left) (c .ended2 .ensures .0),
       c .ended2 .ensures .1,
     )
 
