@@ -16,9 +16,9 @@ sizeLine Short = line ((0x73 ∷ 0x68 ∷ 0x6f ∷ 0x72 ∷ 0x74 ∷ []) ∷ [])
 sizeLine Long = line ((0x6c ∷ 0x6f ∷ 0x6e ∷ 0x67 ∷ []) ∷ [])
 sizeLine Fits = []
 
--- a record's number from 1, and the number, output bytes and steps of its answer
-abbrev pub recordLine : ℕ → ℕ → ℕ → ℕ → List ℕ
-recordLine nth number bytes steps = line (decimal nth ∷ decimal number ∷ decimal bytes ∷ decimal steps ∷ [])
+-- a record's number from 1, and the number, output bytes, steps and missing endpoint of its answer
+abbrev pub recordLine : ℕ → ℕ → ℕ → ℕ → ℕ → List ℕ
+recordLine nth number bytes steps missing = line (decimal nth ∷ decimal number ∷ decimal bytes ∷ decimal steps ∷ decimal missing ∷ [])
 
 -- `>`, URL, connection (document 01: lane) and key map
 abbrev pub requestLine : ℕ → ℕ → ℕ → List ℕ
@@ -34,8 +34,8 @@ unfoldable pub sentLines : List ℕ → List ℕ
 sentLines sent = requestLines (readRun Request sent .records)
 
 -- all that is printed of a record; `sent` is the output bytes that its answer counts
-unfoldable pub recordLines : ℕ → ℕ → ℕ → ℕ → List ℕ → List ℕ
-recordLines nth number bytes steps sent = recordLine nth number bytes steps ++ sentLines sent
+unfoldable pub recordLines : ℕ → ℕ → ℕ → ℕ → ℕ → List ℕ → List ℕ
+recordLines nth number bytes steps missing sent = recordLine nth number bytes steps missing ++ sentLines sent
 
 -- `end`, or `cut` where the last record is shorter than its length byte says
 abbrev pub endingWord : Ending → List ℕ

@@ -25,15 +25,23 @@ pub fn write_size_line(text: &mut [u8], size: InputSize) -> usize
     }
 }
 
-// Four numbers of at most ten digits, each with the byte that ends it.
-fn write_record_line(text: &mut [u8], nth: u32, number: u32, bytes: u32, steps: u32) -> usize
-    requires { ⌜ 44 ≤ length (now text) ⌝ }
-    ensures { λ r. ⌜ Wrote (now (text .entry)) 0 (recordLine nth number bytes steps) (now (text .exit)) r ⌝ }
+// Five numbers of at most ten digits, each with the byte that ends it.
+fn write_record_line(
+    text: &mut [u8],
+    nth: u32,
+    number: u32,
+    bytes: u32,
+    steps: u32,
+    missing: u32,
+) -> usize
+    requires { ⌜ 55 ≤ length (now text) ⌝ }
+    ensures { λ r. ⌜ Wrote (now (text .entry)) 0 (recordLine nth number bytes steps missing) (now (text .exit)) r ⌝ }
 {
     let at_number = write_number(text, 0, nth, b' ');
     let at_bytes = write_number(text, at_number, number, b' ');
     let at_steps = write_number(text, at_bytes, bytes, b' ');
-    write_number(text, at_steps, steps, b'\n')
+    let at_missing = write_number(text, at_steps, steps, b' ');
+    write_number(text, at_missing, missing, b'\n')
 }
 
 // A sign with a space, two numbers of at most three digits and two hexadecimal digits, each of these with the byte that ends it.
@@ -74,12 +82,13 @@ pub fn write_record_lines(
     number: u32,
     bytes: u32,
     steps: u32,
+    missing: u32,
     sent: &[u8],
 ) -> usize
-    requires { ⌜ 44 + 5 * length (now sent) ≤ length (now text) ⌝ }
-    ensures { λ r. ⌜ AtFront (recordLines nth number bytes steps (now (sent .entry))) (now (text .entry)) (now (text .exit)) r ⌝ }
+    requires { ⌜ 55 + 5 * length (now sent) ≤ length (now text) ⌝ }
+    ensures { λ r. ⌜ AtFront (recordLines nth number bytes steps missing (now (sent .entry))) (now (text .entry)) (now (text .exit)) r ⌝ }
 {
-    let at = write_record_line(text, nth, number, bytes, steps);
+    let at = write_record_line(text, nth, number, bytes, steps, missing);
     write_request_lines(text, at, sent)
 }
 

@@ -20,7 +20,7 @@ use transcript::RECORDS_AT;
 const INPUT_ROOM: usize = INPUT_LIMIT + 1;
 
 // What `transcript` asks for a record's lines.
-const TEXT_BYTES: usize = 44 + 5 * OUTPUT_ROOM;
+const TEXT_BYTES: usize = 55 + 5 * OUTPUT_ROOM;
 
 fn main() {
     let mut input = [0u8; INPUT_ROOM];
@@ -99,6 +99,7 @@ fn print_answer(nth: u32, answer: Answer, out: &[u8])
         answer.number,
         answer.bytes,
         answer.steps,
+        answer.missing,
         &out[..sent],
     );
     print(&text[..n]);

@@ -18,7 +18,7 @@ array-share-prefix-text c =
     let w = c .before .write-record-lines in
     let a = c .before .before .before .before .before .before .args in
     let sent = take (a .answer .bytes) (now (a .out)) in
-    front-within (recordLines (a .nth) (a .answer .number) (a .answer .bytes) (a .answer .steps) sent) _ _ (w .result) (w .ensures)
+    front-within (recordLines (a .nth) (a .answer .number) (a .answer .bytes) (a .answer .steps) (a .answer .missing) sent) _ _ (w .result) (w .ensures)
 
 slice-aggregate-print : tie.Need-slice-aggregate-print
 slice-aggregate-print c = sym (length-take-le _ _ (array-share-prefix-text (c .before)))

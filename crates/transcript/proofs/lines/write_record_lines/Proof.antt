@@ -7,15 +7,16 @@ use Rattle.text.proofs.Writing.{wrote-then, at-front}
 use Rattle.transcript.proofs.lines.write_record_lines.Statement.{statement}
 use Rattle.transcript.proofs.lines.write_record_lines.Tie as tie
 
-line-room : (n m k j : ℕ) → length (recordLine n m k j) ≤ 44
-line-room n m k j =
-    simp length-append (omega (arith, simp length-append at (number-room n space), simp length-append at (number-room m space), simp length-append at (number-room k space), simp length-append at (number-room j newline)))
+line-room : (n m k j i : ℕ) → length (recordLine n m k j i) ≤ 55
+line-room n m k j i =
+    simp length-append
+    (omega (arith, simp length-append at (number-room n space), simp length-append at (number-room m space), simp length-append at (number-room k space), simp length-append at (number-room j space), simp length-append at (number-room i newline)))
 
 write-request-lines-requires : tie.Need-write-request-lines-requires
 write-request-lines-requires c κs =
     let s = c .before .before .before .before .before .before .before in
     let w = c .before .before .before .write-record-line in
-    omega (arith, s .pre, w .kept .0, w .ensures .place, line-room (s .args .nth) (s .args .number) (s .args .bytes) (s .args .steps))
+    omega (arith, s .pre, w .kept .0, w .ensures .place, line-room (s .args .nth) (s .args .number) (s .args .bytes) (s .args .steps) (s .args .missing))
 
 returns : tie.Need-returns
 unfolding recordLines
