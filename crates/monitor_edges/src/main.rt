@@ -302,6 +302,7 @@ fn show(answer: Answer, words: &[u32], state: &[u32]) {
     print_number(answer.number);
     print_number(answer.bytes);
     print_number(answer.steps);
+    print_number(answer.missing);
     print(b" :");
     for i in 0..state.len() {
         change(i, word(words, STATE + i), state[i]);
