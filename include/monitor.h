@@ -16,7 +16,7 @@
  *
  * What the monitor promises about secrecy it promises for a session as a whole: from a state of zeros on, the same policy and the same script
  * table throughout, and a state that nobody else writes between calls. It is a promise about the requests and the state. The answer is
- * for the caller alone: its number and counts may depend on what others must not learn.
+ * for the caller alone: its members may depend on what others must not learn.
  *
  * Words are in the machine's byte order. A host is 0 to 15; an address is 0 to 31, http at host a for a below 16 and https at host a - 16
  * from there on. Each address is an endpoint. A set of endpoints is a word: bit a stands for endpoint a. A set is within another where each
@@ -99,12 +99,18 @@ enum monitor_number {
     MONITOR_NAME_UNKNOWN = 6,
     /* a response or redirect on a connection that is free or holds another URL, or a response of another kind than the connection */
     MONITOR_NOT_AWAITED = 7,
-    /* readers forbid it: a load's connection has readers that the URL does not have; or a redirect's connection has readers that the
-     * target does not have, or lacks the target's event endpoint. URL and target are those that are asked for, here and in 9 */
+    /* readers forbid it: a load's connection has readers that the URL does not have; or a redirect's connection lacks the target's event
+     * endpoint, or has readers that the target does not have. URL and target are those that are asked for, here and in 9. Which endpoint is
+     * missing is told (see What a policy lacks below), here and in 9 */
     MONITOR_READERS_FORBID = 8,
     /* writers forbid it: the message endpoint (the address itself) of a load's URL or a redirect's target is not among the connection's
      * writers; or a redirect's connection has writers that the target does not have, and the target is no entry */
     MONITOR_WRITERS_FORBID = 9
+};
+
+/* What an answer has in place of an endpoint where none is missing. */
+enum {
+    MONITOR_NONE_MISSING = 32
 };
 
 struct monitor_answer {
@@ -114,7 +120,24 @@ struct monitor_answer {
     uint32_t bytes;
     /* how many steps of a script ran, the one that ended it included; 0 in a refusal and where no script ran */
     uint32_t steps;
+    /* the endpoint that is missing, 0 to 31, where number is MONITOR_READERS_FORBID or MONITOR_WRITERS_FORBID; else MONITOR_NONE_MISSING,
+     * in every other refusal too */
+    uint32_t missing;
 };
+
+/* What a policy lacks. Where the number is 8 or 9, `missing` tells the endpoint that keeps the record from being accepted: below 16 it is http at
+ * the host of that number, from 16 on https at the host of the number less 16. So endpoint 17 is https at host 1. It is of the first condition that
+ * fails, in the order below, and where several endpoints are missing in that condition it is the lowest: once it is put right, another may be told.
+ * URL and target are those that are asked for, which is the partner where the record names a URL that has one.
+ *     number  record    missing                                                        which set lacks it, and what else could be changed
+ *     8       load      the lowest of the connection's readers that the URL lacks      the URL's readers; or take it from the connection's
+ *     8       redirect  the target's event endpoint, http at its host                  the connection's readers
+ *     8       redirect  the lowest of the connection's readers that the target lacks   the target's readers; or take it from the connection's
+ *     9       load      the URL's message endpoint, its address                        the connection's writers
+ *     9       redirect  the target's message endpoint, its address                     the connection's writers
+ *     9       redirect  the lowest of the connection's writers that the target lacks   the target's writers; or take it from the connection's,
+ *                       (not asked of an entry)                                        or make the target an entry
+ * What is taken from a connection's readers is to be taken from its script readers too, which must be within them. */
 
 /* Records. A record is a map byte, whose bits say which fields follow, in this order: URL (bit 0, one byte), connection (bit 1, one byte),
  * cookies (bit 2), script (bit 3, one byte), value (bit 4), target URL (bit 5, one byte). A value has four bytes, the most significant first.

@@ -1,6 +1,6 @@
 /* Links libmonitor.a: document 01's small post case by case, a script that is stopped on one connection and goes on on another, pictures, hosts that
- * are always https, entries, the endpoints of every address and of its entry, every wrong length of every buffer, null pointers, and random records.
- * Every call is checked for what it must leave alone. */
+ * are always https, entries, every endpoint that can be missing, the endpoints of every address and of its entry, every wrong length of every buffer,
+ * null pointers, and random records. Every call is checked for what it must leave alone, and tells a missing endpoint just where labels forbid. */
 #include <inttypes.h>
 #include <stdbool.h>
 #include <stdio.h>
@@ -70,6 +70,11 @@ static bool is_number(uint32_t number)
     return false;
 }
 
+static bool is_forbidden(struct monitor_answer answer)
+{
+    return answer.number == MONITOR_READERS_FORBID || answer.number == MONITOR_WRITERS_FORBID;
+}
+
 /* What holds of every call, whatever is lent. */
 static void check_answer(struct monitor_answer answer, struct lengths n)
 {
@@ -77,6 +82,8 @@ static void check_answer(struct monitor_answer answer, struct lengths n)
     check(memcmp(lent.scripts, before.scripts, sizeof lent.scripts) == 0, "the script table changed");
     check(memcmp(lent.record, before.record, sizeof lent.record) == 0, "the record changed");
     check(is_number(answer.number), "the answer is no number that there is");
+    check(is_forbidden(answer) ? answer.missing < MONITOR_NONE_MISSING : answer.missing == MONITOR_NONE_MISSING,
+          "no endpoint is missing where labels forbid, or one where they do not");
     if (answer.number != MONITOR_ACCEPTED) {
         check(answer.bytes == 0 && answer.steps == 0, "a refusal has counts");
         check(memcmp(lent.state, before.state, sizeof lent.state) == 0, "a refusal changed the state, or past it");
@@ -142,17 +149,21 @@ static void gives(const char *name, const uint8_t *record, size_t size, struct m
 {
     doing = name;
     struct monitor_answer answer = feed_with(RIGHT, record, size);
-    if (answer.number != want.number || answer.bytes != want.bytes || answer.steps != want.steps) {
-        fprintf(stderr, "monitor: %s: answered %" PRIu32 " %" PRIu32 " %" PRIu32 ", expected %" PRIu32 " %" PRIu32 " %" PRIu32 "\n", name,
-                answer.number, answer.bytes, answer.steps, want.number, want.bytes, want.steps);
+    if (answer.number != want.number || answer.bytes != want.bytes || answer.steps != want.steps || answer.missing != want.missing) {
+        fprintf(stderr,
+                "monitor: %s: answered %" PRIu32 " %" PRIu32 " %" PRIu32 " %" PRIu32 ", expected %" PRIu32 " %" PRIu32 " %" PRIu32 " %" PRIu32 "\n",
+                name, answer.number, answer.bytes, answer.steps, answer.missing, want.number, want.bytes, want.steps, want.missing);
         exit(EXIT_FAILURE);
     }
     check(memcmp(lent.out, sent, want.bytes) == 0, "other bytes were sent");
 }
 
 #define BYTES(...) (const uint8_t[]){__VA_ARGS__}, sizeof((const uint8_t[]){__VA_ARGS__})
-#define ACCEPTED(bytes, steps) (struct monitor_answer){MONITOR_ACCEPTED, bytes, steps}
-#define REFUSED(number) (struct monitor_answer){number, 0, 0}
+#define ACCEPTED(bytes, steps) (struct monitor_answer){MONITOR_ACCEPTED, bytes, steps, MONITOR_NONE_MISSING}
+#define REFUSED(number) (struct monitor_answer){number, 0, 0, MONITOR_NONE_MISSING}
+/* refused by labels, which tell the endpoint that is missing */
+#define READERS_FORBID(missing) (struct monitor_answer){MONITOR_READERS_FORBID, 0, 0, missing}
+#define WRITERS_FORBID(missing) (struct monitor_answer){MONITOR_WRITERS_FORBID, 0, 0, missing}
 static const uint8_t NOTHING[1];
 
 /* The words of the state that are not 0. */
@@ -183,8 +194,8 @@ static void loads(void)
 {
     load_0("case a");
     small_post();
-    gives("case b", BYTES(0x03, 0, 1), REFUSED(MONITOR_READERS_FORBID), NOTHING);
-    gives("case c", BYTES(0x03, 3, 0), REFUSED(MONITOR_WRITERS_FORBID), NOTHING);
+    gives("case b", BYTES(0x03, 0, 1), READERS_FORBID(1), NOTHING);
+    gives("case c", BYTES(0x03, 3, 0), WRITERS_FORBID(0), NOTHING);
     gives("case d, URL 4", BYTES(0x03, 4, 0), REFUSED(MONITOR_NAME_UNKNOWN), NOTHING);
     gives("case d, URL 64", BYTES(0x03, 64, 0), REFUSED(MONITOR_NAME_UNKNOWN), NOTHING);
     gives("case d, connection 32", BYTES(0x03, 0, 32), REFUSED(MONITOR_NAME_UNKNOWN), NOTHING);
@@ -199,11 +210,11 @@ static void cookies(void)
     store_7("case g");
     gives("case g", BYTES(0x03, 3, 3), ACCEPTED(3, 0), (const uint8_t[]){0x03, 3, 3});
     load_0("case h");
-    gives("case h", BYTES(0x27, 0, 0, 0x01, 0, 0, 0, 7, 2), REFUSED(MONITOR_READERS_FORBID), NOTHING);
+    gives("case h", BYTES(0x27, 0, 0, 0x01, 0, 0, 0, 7, 2), READERS_FORBID(1), NOTHING);
     check_state(0, 0, 1u << 24);
     small_post();
     gives("case i", BYTES(0x03, 1, 1), ACCEPTED(3, 0), (const uint8_t[]){0x03, 1, 1});
-    gives("case i", BYTES(0x23, 1, 1, 2), REFUSED(MONITOR_WRITERS_FORBID), NOTHING);
+    gives("case i", BYTES(0x23, 1, 1, 2), WRITERS_FORBID(0), NOTHING);
 }
 
 static void malformed(void)
@@ -306,11 +317,11 @@ static void upgraded_labels(void)
     lent.policy[3 * 3 + 1] = UINT32_MAX;
     gives("the row itself, which all may read", BYTES(0x03, 3, 1), ACCEPTED(3, 0), (const uint8_t[]){0x03, 3, 1});
     list_host_0();
-    gives("the partner, which not all may read", BYTES(0x03, 3, 1), REFUSED(MONITOR_READERS_FORBID), NOTHING);
+    gives("the partner, which not all may read", BYTES(0x03, 3, 1), READERS_FORBID(1), NOTHING);
     gives("the row of a host that is not listed", BYTES(0x03, 1, 1), ACCEPTED(3, 0), (const uint8_t[]){0x03, 1, 1});
-    gives("a redirect to the partner, which not all may read", BYTES(0x23, 1, 1, 3), REFUSED(MONITOR_READERS_FORBID), NOTHING);
+    gives("a redirect to the partner, which not all may read", BYTES(0x23, 1, 1, 3), READERS_FORBID(1), NOTHING);
     lent.state[144 + 3] = 1u << 24 | 3;
-    gives("a redirect to the partner, with a writer too many", BYTES(0x23, 3, 3, 3), REFUSED(MONITOR_WRITERS_FORBID), NOTHING);
+    gives("a redirect to the partner, with a writer too many", BYTES(0x23, 3, 3, 3), WRITERS_FORBID(0), NOTHING);
     gives("a response that names the partner of what is held", BYTES(0x0b, 0, 3, 0), REFUSED(MONITOR_NOT_AWAITED), NOTHING);
     gives("a response that names the row that is held", BYTES(0x0b, 3, 3, 0), ACCEPTED(0, 1), NOTHING);
 }
@@ -410,9 +421,9 @@ static void search_page(void)
 {
     static const uint8_t requests[] = {5, 4, 1, 9, 7, 4, 1, 0, 5, 5, 1, 9}, picture_of_5[] = {7, 5, 1, 0};
     front_page();
-    gives("the page behind the front page", BYTES(0x23, 1, 1, 5), REFUSED(MONITOR_WRITERS_FORBID), NOTHING);
+    gives("the page behind the front page", BYTES(0x23, 1, 1, 5), WRITERS_FORBID(0), NOTHING);
     gives("the front page", BYTES(0x23, 1, 1, 4), ACCEPTED(3, 0), (const uint8_t[]){0x03, 4, 1});
-    gives("the page behind it, from there", BYTES(0x23, 4, 1, 5), REFUSED(MONITOR_WRITERS_FORBID), NOTHING);
+    gives("the page behind it, from there", BYTES(0x23, 4, 1, 5), WRITERS_FORBID(0), NOTHING);
     gives("the page behind it, loaded", BYTES(0x03, 5, 1), ACCEPTED(3, 0), (const uint8_t[]){0x03, 5, 1});
     front_page();
     memcpy(lent.scripts, requests, sizeof requests);
@@ -439,18 +450,24 @@ static uint32_t unless(uint32_t fails, unsigned condition, unsigned endpoint)
     return (fails >> condition & 1u) != 0 ? 0 : 1u << endpoint;
 }
 
+/* What comes of a redirect where these conditions fail: the first of them tells. */
+static struct monitor_answer redirect_failing(uint32_t fails)
+{
+    return (fails & 1u) != 0   ? READERS_FORBID(5)
+           : (fails & 2u) != 0 ? READERS_FORBID(2)
+           : (fails & 4u) != 0 ? WRITERS_FORBID(21)
+           : (fails & 8u) != 0 ? WRITERS_FORBID(3)
+                               : ACCEPTED(3, 0);
+}
+
 /* The conditions of a redirect, each alone and every few of them together: event endpoint, readers, message endpoint, writers. */
 static void redirect_conditions(bool is_entry)
 {
     for (uint32_t fails = 0; fails < 16; fails++) {
         const uint32_t asked = is_entry ? fails & 7u : fails;
-        link_post(is_entry, 1u << 5 | unless(fails, 1, 2), 1u << 21 | unless(fails, 3, 2));
-        set_words(connection_sets(OWN), 0, 3, (const uint32_t[]){1u << 2 | unless(fails, 0, 5), 0, 1u << 2 | unless(fails, 2, 21)});
-        gives("the conditions of a redirect", BYTES(0x23, PAGE, OWN, LINKED),
-              asked == 0          ? ACCEPTED(3, 0)
-              : (asked & 3u) != 0 ? REFUSED(MONITOR_READERS_FORBID)
-                                  : REFUSED(MONITOR_WRITERS_FORBID),
-              (const uint8_t[]){0x03, LINKED, OWN});
+        link_post(is_entry, 1u << 5 | unless(fails, 1, 2), 1u << 2 | 1u << 21 | unless(fails, 3, 3));
+        set_words(connection_sets(OWN), 0, 3, (const uint32_t[]){1u << 2 | unless(fails, 0, 5), 0, 1u << 2 | 1u << 3 | unless(fails, 2, 21)});
+        gives("the conditions of a redirect", BYTES(0x23, PAGE, OWN, LINKED), redirect_failing(asked), (const uint8_t[]){0x03, LINKED, OWN});
     }
 }
 
@@ -483,7 +500,7 @@ static void linked_pair(uint32_t named, uint32_t partner)
     lent.policy[0] += partner;
     lent.policy[3 * 3 + 2] = 0;
     gives("a load of a pair", BYTES(0x03, 3, 3), ACCEPTED(3, 0), (const uint8_t[]){0x03, 0, 3});
-    gives("a redirect to a pair", BYTES(0x23, 0, 3, 3), is_entry ? ACCEPTED(3, 0) : REFUSED(MONITOR_WRITERS_FORBID), (const uint8_t[]){0x03, 0, 3});
+    gives("a redirect to a pair", BYTES(0x23, 0, 3, 3), is_entry ? ACCEPTED(3, 0) : WRITERS_FORBID(0), (const uint8_t[]){0x03, 0, 3});
     memcpy(lent.scripts, requests_3, sizeof requests_3);
     gives("a script that requests a pair", BYTES(0x0b, 0, 3, 0), is_entry ? ACCEPTED(4, 2) : ACCEPTED(0, 1), (const uint8_t[]){0x0b, 0, 3, 9});
     lent.state[144 + 3] = 1u << 24;
@@ -506,6 +523,111 @@ static void entries(void)
         linked_pair(0, is_entry != 0 ? MONITOR_ENTRY : 0);
         linked_pair(MONITOR_ENTRY, is_entry != 0 ? MONITOR_ENTRY : 0);
     }
+}
+
+/* ---- the endpoint that is missing */
+
+/* One endpoint or two, where they are the same. */
+static uint32_t both(uint32_t low, uint32_t high)
+{
+    return 1u << low | 1u << high;
+}
+
+static uint32_t lowest(uint32_t set)
+{
+    uint32_t endpoint = 0;
+    while (endpoint < 32 && (set >> endpoint & 1u) == 0) {
+        endpoint++;
+    }
+    return endpoint;
+}
+
+/* The three words of URL LINKED, and readers and writers of connections OWN, which awaits PAGE, and OTHER, which is free. PAGE has an address that is
+ * among the writers, so that OWN may hold it. */
+static void lacking_post(uint32_t word, uint32_t url_readers, uint32_t url_writers, uint32_t readers, uint32_t writers)
+{
+    small_post();
+    set_words(lent.policy, 3 * PAGE, 3, (const uint32_t[]){lowest(writers), UINT32_MAX, UINT32_MAX});
+    set_words(lent.policy, 3 * LINKED, 3, (const uint32_t[]){word, url_readers, url_writers});
+    set_words(connection_sets(OWN), 0, 3, (const uint32_t[]){readers, 0, writers});
+    set_words(connection_sets(OTHER), 0, 3, (const uint32_t[]){readers, 0, writers});
+    lent.state[144 + OWN] = 1u << 24 | PAGE;
+}
+
+static void load_tells(const char *name, struct monitor_answer want)
+{
+    gives(name, BYTES(0x03, LINKED, OTHER), want, (const uint8_t[]){0x03, LINKED, OTHER});
+}
+
+static void redirect_tells(const char *name, struct monitor_answer want)
+{
+    gives(name, BYTES(0x23, PAGE, OWN, LINKED), want, (const uint8_t[]){0x03, LINKED, OWN});
+}
+
+/* The conditions that ask of a set to be within another, which lacks two endpoints or one: the lowest is told. The URL is by https at a host whose
+ * event endpoint is neither of them. */
+static void lacks_pair(uint32_t low, uint32_t high)
+{
+    const uint32_t host = low > 0 ? 0 : high == 1 ? 2 : 1, pair = both(low, high);
+    lacking_post(16 + host, ~pair, UINT32_MAX, UINT32_MAX, UINT32_MAX);
+    load_tells("readers that a load's URL lacks", READERS_FORBID(low));
+    redirect_tells("readers that a redirect's target lacks", READERS_FORBID(low));
+    lacking_post(16 + host, ~pair, UINT32_MAX, pair | 1u << host, UINT32_MAX);
+    load_tells("the only readers but one, which a load's URL lacks", READERS_FORBID(low));
+    redirect_tells("the only readers but one, which a redirect's target lacks", READERS_FORBID(low));
+    lacking_post(16 + host, UINT32_MAX, ~pair, UINT32_MAX, UINT32_MAX);
+    load_tells("writers that a load's URL lacks, which is not asked", ACCEPTED(3, 0));
+    redirect_tells("writers that a redirect's target lacks", WRITERS_FORBID(low));
+    lacking_post(MONITOR_ENTRY + 16 + host, UINT32_MAX, ~pair, UINT32_MAX, UINT32_MAX);
+    redirect_tells("writers that an entry lacks, which is not asked", ACCEPTED(3, 0));
+}
+
+/* The conditions that ask of a set to have an endpoint of the URL. Where the first of two fails, what is missing in the second is not told. */
+static void lacks_endpoint(uint32_t word)
+{
+    const uint32_t message = word % 32, event = word % 16, other = event == 3 ? 4 : 3;
+    for (int k = 0; k < 2; k++) {
+        const uint32_t url_readers = k == 0 ? UINT32_MAX : ~(1u << other), url_writers = k == 0 ? UINT32_MAX : 0;
+        lacking_post(word, url_readers, url_writers, ~(1u << event), UINT32_MAX);
+        redirect_tells("the event endpoint of a redirect's target", READERS_FORBID(event));
+        lacking_post(word, UINT32_MAX, url_writers, UINT32_MAX, ~(1u << message));
+        load_tells("the message endpoint of a load's URL", WRITERS_FORBID(message));
+        redirect_tells("the message endpoint of a redirect's target", WRITERS_FORBID(message));
+    }
+    lacking_post(word, ~(1u << other), 0, UINT32_MAX, ~(1u << message));
+    load_tells("readers of a load's URL, and its message endpoint", READERS_FORBID(other));
+    redirect_tells("readers of a redirect's target, and its message endpoint", READERS_FORBID(other));
+}
+
+/* With host 0 of policy P listed, URL 0 is asked for in place of URL 3: of URL 3 another endpoint would be told. */
+static void partner_lacks(void)
+{
+    small_post();
+    list_host_0();
+    set_words(lent.policy, 0, 3, (const uint32_t[]){16, ~both(9, 9), ~both(7, 7)});
+    set_words(lent.policy, 3 * 3, 3, (const uint32_t[]){0, ~both(8, 8), ~both(6, 6)});
+    gives("readers that the partner of a load's URL lacks", BYTES(0x03, 3, 1), READERS_FORBID(9), NOTHING);
+    connection_sets(OTHER)[WRITERS] = 1u << 5;
+    gives("the message endpoint of the partner of a load's URL", BYTES(0x03, 3, OTHER), WRITERS_FORBID(16), NOTHING);
+    gives("the page", BYTES(0x03, 1, 1), ACCEPTED(3, 0), (const uint8_t[]){0x03, 1, 1});
+    gives("readers that the partner of a redirect's target lacks", BYTES(0x23, 1, 1, 3), READERS_FORBID(9), NOTHING);
+    set_words(connection_sets(1), 0, 3, (const uint32_t[]){1, 0, ~both(0, 16)});
+    gives("the message endpoint of the partner of a redirect's target", BYTES(0x23, 1, 1, 3), WRITERS_FORBID(16), NOTHING);
+    connection_sets(1)[WRITERS] = UINT32_MAX;
+    gives("writers that the partner of a redirect's target lacks", BYTES(0x23, 1, 1, 3), WRITERS_FORBID(7), NOTHING);
+}
+
+static void missing(void)
+{
+    for (uint32_t low = 0; low < 32; low++) {
+        for (uint32_t high = low; high < 32; high++) {
+            lacks_pair(low, high);
+        }
+    }
+    for (uint32_t word = 0; word < 2 * MONITOR_ENTRY; word++) {
+        lacks_endpoint(word);
+    }
+    partner_lacks();
 }
 
 /* ---- the endpoints of an address: each question that is about one, asked of a set that has one endpoint */
@@ -532,10 +654,10 @@ static void open_post(const struct asked *a, uint32_t from_address, uint8_t awai
 }
 
 /* Loads the URL on the free connection. */
-static void load_gives(const char *name, const struct asked *a, bool accepted, uint32_t number)
+static void load_gives(const char *name, const struct asked *a, bool accepted, struct monitor_answer refusal)
 {
     const uint8_t load[] = {0x03, a->url, a->free};
-    gives(name, load, sizeof load, accepted ? ACCEPTED(3, 0) : REFUSED(number), load);
+    gives(name, load, sizeof load, accepted ? ACCEPTED(3, 0) : refusal, load);
 }
 
 /* A row is well formed with its event endpoint alone as reader. */
@@ -543,7 +665,7 @@ static void ask_row(const struct asked *a, uint8_t endpoint)
 {
     open_post(a, 0, a->from);
     lent.policy[3u * a->url + 1] = 1u << endpoint;
-    load_gives("a row's event endpoint", a, endpoint == a->event, MONITOR_POLICY_BAD);
+    load_gives("a row's event endpoint", a, endpoint == a->event, REFUSED(MONITOR_POLICY_BAD));
 }
 
 /* A load, and a connection that awaits the URL, want the message endpoint among the connection's writers. */
@@ -551,10 +673,10 @@ static void ask_fit(const struct asked *a, uint8_t endpoint)
 {
     open_post(a, 0, a->from);
     connection_sets(a->free)[WRITERS] = 1u << endpoint;
-    load_gives("a load's message endpoint", a, endpoint == a->message, MONITOR_WRITERS_FORBID);
+    load_gives("a load's message endpoint", a, endpoint == a->message, WRITERS_FORBID(a->message));
     open_post(a, 0, a->url);
     connection_sets(a->awaiting)[WRITERS] = 1u << endpoint;
-    load_gives("an awaited URL's message endpoint", a, endpoint == a->message, MONITOR_STATE_UNSOUND);
+    load_gives("an awaited URL's message endpoint", a, endpoint == a->message, REFUSED(MONITOR_STATE_UNSOUND));
 }
 
 /* A redirect wants the event endpoint among the connection's readers, and the message endpoint among its writers. */
@@ -564,12 +686,12 @@ static void ask_redirect(const struct asked *a, uint8_t endpoint)
     open_post(a, 0, a->from);
     connection_sets(a->awaiting)[READERS] = 1u << endpoint;
     gives("a redirect's event endpoint", BYTES(0x23, a->from, a->awaiting, a->url),
-          endpoint == a->event ? ACCEPTED(3, 0) : REFUSED(MONITOR_READERS_FORBID), request);
+          endpoint == a->event ? ACCEPTED(3, 0) : READERS_FORBID(a->event), request);
     open_post(a, endpoint, a->from);
     connection_sets(a->awaiting)[READERS] = 1u << a->event;
     connection_sets(a->awaiting)[WRITERS] = 1u << endpoint;
     gives("a redirect's message endpoint", BYTES(0x23, a->from, a->awaiting, a->url),
-          endpoint == a->message ? ACCEPTED(3, 0) : REFUSED(MONITOR_WRITERS_FORBID), request);
+          endpoint == a->message ? ACCEPTED(3, 0) : WRITERS_FORBID(a->message), request);
 }
 
 /* The response of the page that is awaited runs a script, which requests the URL on the free connection: by step 5, or as a picture by step 7. */
@@ -603,10 +725,10 @@ static void ask_writers(const struct asked *a)
     uint32_t *const sets = connection_sets(a->awaiting);
     open_post(a, 0, a->from);
     lent.policy[3u * a->url + 2] = 0;
-    load_gives("a load of a URL that nobody writes", a, true, MONITOR_ACCEPTED);
+    load_gives("a load of a URL that nobody writes", a, true, ACCEPTED(3, 0));
     sets[READERS] = sets[SCRIPT_READERS] = 1u << a->event;
     gives("a redirect to a URL that nobody writes", BYTES(0x23, a->from, a->awaiting, a->url),
-          is_entry ? ACCEPTED(3, 0) : REFUSED(MONITOR_WRITERS_FORBID), request);
+          is_entry ? ACCEPTED(3, 0) : WRITERS_FORBID(0), request);
     for (uint8_t operation = 5; operation <= 7; operation += 2) {
         lent.state[144 + a->awaiting] = 1u << 24 | a->from;
         script_gives("a script that requests a URL that nobody writes", a, operation, is_entry);
@@ -764,7 +886,7 @@ static void random_records(void)
 {
     static const uint8_t maps[] = {0x03, 0x03, 0x0b, 0x0f, 0x13, 0x17, 0x23, 0x27, 0x43, 0x47};
     static const uint8_t sizes[] = {3, 3, 4, 9, 7, 12, 4, 9, 3, 8};
-    unsigned long accepted = 0;
+    unsigned long accepted = 0, forbidden = 0;
     doing = "random records";
     for (uint32_t k = 0; k < 20000; k++) {
         if (k % 50 == 0) {
@@ -795,9 +917,12 @@ static void random_records(void)
             size = next_random() >> 8 & 0xffu;
             record[next_random() >> 8 & 7u] = (uint8_t)(next_random() >> 8 & 0xffu);
         }
-        accepted += feed_with(RIGHT, record, size).number == MONITOR_ACCEPTED;
+        const struct monitor_answer answer = feed_with(RIGHT, record, size);
+        accepted += answer.number == MONITOR_ACCEPTED;
+        forbidden += is_forbidden(answer);
     }
     check(accepted > 1000, "next to nothing was accepted");
+    check(forbidden > 1000, "next to nothing was forbidden by labels");
 }
 
 int main(void)
@@ -809,13 +934,14 @@ int main(void)
     pictures();
     always_https();
     entries();
+    missing();
     endpoints();
     address_words();
     wrong_lengths();
     null_pointers();
     random_records();
-    printf("monitor: cases a to j, the script in two connections, pictures, https hosts, entries, the endpoints of every address and of its entry, "
-           "every wrong length, null pointers agree, and random records touch nothing else: %lu calls\n",
+    printf("monitor: cases a to j, the script in two connections, pictures, https hosts, entries, every missing endpoint, the endpoints of every "
+           "address and of its entry, every wrong length, null pointers agree, and random records touch nothing else: %lu calls\n",
            calls);
     return 0;
 }

@@ -34,7 +34,7 @@ static struct monitor_answer feeds_nothing(const uint32_t *p, size_t pn, const u
                                            uint8_t *o, size_t on)
 {
     (void)p, (void)pn, (void)c, (void)cn, (void)s, (void)sn, (void)r, (void)rn, (void)o, (void)on;
-    return (struct monitor_answer){0, 0, 0};
+    return (struct monitor_answer){.number = 0};
 }
 
 static struct usage_tally counts_nothing(const uint8_t *r, size_t rn)
@@ -122,16 +122,21 @@ static void bound(const char *name, size_t taken, size_t most)
     }
 }
 
-static void measure(const char *name, uint32_t number, uint32_t bytes, uint32_t steps)
+static void measure_missing(const char *name, uint32_t number, uint32_t bytes, uint32_t steps, uint32_t missing)
 {
     feeder = feeds_nothing;
     size_t around = depth(feed);
     feeder = monitor_feed;
     bound(name, depth(feed) - around, MOST);
-    if (answer.number != number || answer.bytes != bytes || answer.steps != steps) {
-        fprintf(stderr, "stack: %s: answered %u %u %u\n", name, answer.number, answer.bytes, answer.steps);
+    if (answer.number != number || answer.bytes != bytes || answer.steps != steps || answer.missing != missing) {
+        fprintf(stderr, "stack: %s: answered %u %u %u %u\n", name, answer.number, answer.bytes, answer.steps, answer.missing);
         exit(EXIT_FAILURE);
     }
+}
+
+static void measure(const char *name, uint32_t number, uint32_t bytes, uint32_t steps)
+{
+    measure_missing(name, number, bytes, steps, MONITOR_NONE_MISSING);
 }
 
 static void measure_count(const char *name, uint32_t number, uint32_t records)
@@ -160,6 +165,9 @@ int main(void)
     memcpy(record, redirect, sizeof redirect);
     record_bytes = sizeof redirect;
     measure("a redirect", MONITOR_ACCEPTED, MONITOR_LONGEST_REQUEST - 1, 0); /* a document's: no handler */
+    policy[3 * 2 + 2] = UINT32_MAX >> 1;
+    record[3] = 2;
+    measure_missing("refused last: a redirect that writers forbid", MONITOR_WRITERS_FORBID, 0, 0, 31);
     everything();
     record_bytes = 0;
     measure("refused after policy and state: an empty record", MONITOR_KIND_UNKNOWN, 0, 0);

@@ -35,6 +35,41 @@
 //! assert_eq!(unknown.unwrap_err().number(), 6);
 //! ```
 //!
+//! # What a policy lacks
+//!
+//! Where readers or writers forbid a record, the refusal tells which endpoint is missing. An endpoint is http or https at a host: endpoint 17 is
+//! https at host 1. If the record should be accepted, the endpoint is to be added to a set of the policy, or taken from another: which sets these
+//! are is listed, condition by condition, at [`Refusal::ReadersForbid`] and [`Refusal::WritersForbid`]. The first condition that fails is told of,
+//! and of several endpoints that are missing in it the lowest: once that is put right, another may be told. URL and target are those that are asked
+//! for, which is the partner where the record names a URL that has one.
+//!
+//! ```
+//! # use zolherima::{feed, NO_PARTNER, NO_URL, OUT_BYTES, POLICY_WORDS, SCRIPT_BYTES, STATE_WORDS};
+//! use zolherima::{Refusal, Scheme};
+//! # let mut policy = [0; POLICY_WORDS];
+//! # for url in policy[..192].chunks_exact_mut(3) {
+//! #     url.copy_from_slice(&NO_URL);
+//! # }
+//! # policy[545..].fill(NO_PARTNER);
+//! # let scripts = [0; SCRIPT_BYTES];
+//! # let (mut state, mut out) = ([0; STATE_WORDS], [0; OUT_BYTES]);
+//!
+//! // URL 0 is https at host 1; who sees host 1 on the wire may learn of it. Connection 0 has nobody as a writer.
+//! policy[..3].copy_from_slice(&[17, 0x0000_0002, 0]);
+//! policy[448..451].copy_from_slice(&[0x0000_0002, 0x0000_0002, 0]);
+//!
+//! let load = feed(&policy, &scripts, &mut state, &[0x03, 0, 0], &mut out);
+//! let Err(refusal @ Refusal::WritersForbid { missing }) = load else { panic!("{load:?}") };
+//! assert_eq!((missing.number(), missing.scheme(), missing.host()), (17, Scheme::Https, 1));
+//! assert!(refusal.to_string().ends_with(": https at host 1 is missing"));
+//!
+//! // The connection's writers lack the URL's own address: it is added to them.
+//! policy[450] |= 1 << missing.number();
+//! assert!(feed(&policy, &scripts, &mut state, &[0x03, 0, 0], &mut out).is_ok());
+//! ```
+//!
+//! # Secrecy
+//!
 //! What the monitor promises about secrecy it promises for a session as a whole: from a state of zeros on, the same policy and the same
 //! script table throughout, and a state that nobody else writes between calls. It is a promise about the requests and the state. What
 //! [`feed`] answers is for the caller alone: it may depend on what others must not learn.
@@ -60,10 +95,13 @@
 #![no_std]
 #![warn(missing_docs)]
 
+mod endpoint;
 #[cfg(feature = "usage")]
 pub mod usage;
 
 use core::fmt;
+
+pub use endpoint::{Endpoint, Scheme};
 
 /// Words of a policy.
 pub const POLICY_WORDS: usize = 609;
@@ -106,35 +144,49 @@ pub struct Accepted {
     pub steps: u32,
 }
 
-// One list of the refusals: for each its name, its number and its words. A number can come or go without a change elsewhere.
+// One list of the refusals: for each its name, its number and its words, and `Endpoint` where it tells which one is missing. A number can come or
+// go without a change elsewhere.
 macro_rules! refusals {
-    ($($(#[$doc:meta])* $name:ident = $number:literal, $words:literal;)*) => {
+    ($($(#[$doc:meta])* $name:ident = $number:literal, $words:literal $(, $endpoint:ident)?;)*) => {
         /// Why a record was refused: the first of these that applies.
         #[derive(Clone, Copy, Debug, PartialEq, Eq, Hash)]
-        #[repr(u32)]
         pub enum Refusal {
-            $($(#[$doc])* $name = $number,)*
+            $($(#[$doc])* $name $({
+                /// The endpoint that is missing.
+                missing: $endpoint,
+            })?,)*
         }
 
         impl Refusal {
-            /// Every refusal, in the order in which they are asked.
-            pub const ALL: &'static [Refusal] = &[$(Refusal::$name),*];
+            /// The number and the words of every refusal, in the order in which they are asked.
+            pub const LIST: &'static [(u32, &'static str)] = &[$(($number, $words)),*];
 
             /// The number that C programs see.
             pub const fn number(self) -> u32 {
-                self as u32
+                match self {
+                    $(Refusal::$name { .. } => $number,)*
+                }
             }
 
-            const fn of(number: u32) -> Option<Refusal> {
+            /// The endpoint that is missing, where readers or writers forbid the record.
+            pub const fn missing(self) -> Option<Endpoint> {
+                match self {
+                    $($(Refusal::$name { missing } => Some::<$endpoint>(missing),)?)*
+                    _ => None,
+                }
+            }
+
+            /// None where the number is unknown, or an endpoint is called for and there is none of this number.
+            fn of(number: u32, missing: u32) -> Option<Refusal> {
                 match number {
-                    $($number => Some(Refusal::$name),)*
+                    $($number => Some(Refusal::$name $({ missing: $endpoint::new(missing)? })?),)*
                     _ => None,
                 }
             }
 
             const fn words(self) -> &'static str {
                 match self {
-                    $(Refusal::$name => $words,)*
+                    $(Refusal::$name { .. } => $words,)*
                 }
             }
         }
@@ -166,17 +218,31 @@ refusals! {
     NameUnknown = 6, "the record names a URL, connection or script that there is not";
     /// A response or redirect on a connection that is free or holds another URL, or a response of another kind than the connection.
     NotAwaited = 7, "the connection does not await this record";
-    /// Readers forbid it: a load's connection has readers that the URL does not have; or a redirect's connection has readers that the
-    /// target does not have, or lacks the target's event endpoint.
-    ReadersForbid = 8, "the readers of the connection and the URL forbid it";
-    /// Writers forbid it: the address of a load's URL or of a redirect's target is not among the connection's writers; or a redirect's
-    /// connection has writers that the target does not have, and the target is no entry.
-    WritersForbid = 9, "the writers of the connection and the URL forbid it";
+    /// Readers forbid it, which are those who may learn of something. The first of these that applies, and what can be done about the missing
+    /// endpoint:
+    ///
+    /// - A load's connection has a reader that the URL lacks: add it to the readers of the URL, or take it from those of the connection, and from
+    ///   its script readers.
+    /// - A redirect's connection lacks the event endpoint of the target, http at its host, as a reader: add it to the readers of the connection.
+    /// - A redirect's connection has a reader that the target lacks: likewise, with the target for the URL.
+    ReadersForbid = 8, "the readers of the connection and the URL forbid it", Endpoint;
+    /// Writers forbid it, which are those who may have shaped something. The first of these that applies, and what can be done about the missing
+    /// endpoint:
+    ///
+    /// - A load's connection lacks the URL's address as a writer: add it to the writers of the connection.
+    /// - A redirect's connection lacks the target's address as a writer: the same.
+    /// - A redirect's connection has a writer that the target lacks, and the target is no entry: add it to the writers of the target, take it from
+    ///   those of the connection, or make the target an [entry](ENTRY).
+    WritersForbid = 9, "the writers of the connection and the URL forbid it", Endpoint;
 }
 
 impl fmt::Display for Refusal {
     fn fmt(&self, to: &mut fmt::Formatter<'_>) -> fmt::Result {
-        to.write_str(self.words())
+        to.write_str(self.words())?;
+        match self.missing() {
+            Some(endpoint) => write!(to, ": {endpoint} is missing"),
+            None => Ok(()),
+        }
     }
 }
 
@@ -189,8 +255,8 @@ impl core::error::Error for Refusal {}
 ///
 /// # Panics
 ///
-/// Where the library answers a number that is none of [`Refusal`]. By its contract it never does: the `libmonitor.a` that is linked would
-/// have to be of another version than this crate. What such a call has changed cannot be said here.
+/// Where the library answers a number that is none of [`Refusal`], or for one that has a missing endpoint tells none. By its contract it never
+/// does: the `libmonitor.a` that is linked would have to be of another version than this crate. What such a call has changed cannot be said here.
 #[inline]
 pub fn feed(
     policy: &[u32],
@@ -220,13 +286,19 @@ pub fn feed(
             bytes: answer.bytes as usize,
             steps: answer.steps,
         }),
-        number => Err(Refusal::of(number).unwrap_or_else(|| unknown("libmonitor.a", number))),
+        number => Err(refusal(number, answer.missing)),
     }
 }
 
+#[inline]
+fn refusal(number: u32, missing: u32) -> Refusal {
+    Refusal::of(number, missing)
+        .unwrap_or_else(|| unknown("libmonitor.a", format_args!("{number}, missing {missing}")))
+}
+
 #[cold]
-fn unknown(library: &str, number: u32) -> ! {
-    panic!("{library} answers {number}, which this crate does not know: they are of two versions")
+fn unknown(library: &str, answer: fmt::Arguments<'_>) -> ! {
+    panic!("{library} answers {answer}, which this crate does not know: they are of two versions")
 }
 
 /// What `include/monitor.h` declares.
@@ -236,6 +308,7 @@ mod c {
         pub number: u32,
         pub bytes: u32,
         pub steps: u32,
+        pub missing: u32,
     }
 
     extern "C" {
@@ -260,19 +333,35 @@ mod tests {
 
     #[test]
     fn a_number_is_that_of_its_refusal_or_of_none() {
-        let known = |number: u32| {
-            Refusal::ALL
-                .iter()
-                .find(|refusal| refusal.number() == number)
-        };
+        let is_listed = |number| Refusal::LIST.iter().any(|(of, _)| *of == number);
         for number in (0..1000).chain([u32::MAX]) {
-            assert_eq!(Refusal::of(number), known(number).copied(), "{number}");
+            let known = Refusal::of(number, 17).map(Refusal::number);
+            assert_eq!(known, is_listed(number).then_some(number));
         }
     }
 
     #[test]
-    #[should_panic(expected = "libmonitor.a answers 1000")]
+    fn an_endpoint_is_called_for_by_two_numbers_alone() {
+        for &(number, _) in Refusal::LIST {
+            for missing in (0..40).chain([u32::MAX]) {
+                let endpoint = Endpoint::new(missing).filter(|_| [8, 9].contains(&number));
+                let refusal = Refusal::of(number, missing);
+                assert_eq!(refusal.and_then(Refusal::missing), endpoint);
+                let is_told = endpoint.is_some() || ![8, 9].contains(&number);
+                assert_eq!(refusal.is_some(), is_told, "{number}, {missing}");
+            }
+        }
+    }
+
+    #[test]
+    #[should_panic(expected = "libmonitor.a answers 1000, missing 32, which this crate")]
     fn a_number_that_is_not_known_is_told() {
-        unknown("libmonitor.a", 1000);
+        refusal(1000, 32);
+    }
+
+    #[test]
+    #[should_panic(expected = "libmonitor.a answers 8, missing 32, which this crate")]
+    fn an_endpoint_that_there_is_not_is_told() {
+        refusal(8, 32);
     }
 }

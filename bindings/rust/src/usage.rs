@@ -83,7 +83,7 @@ pub fn count(requests: &[u8]) -> Result<Tally, ListBad> {
             all_cookies: tally.all_cookies,
         }),
         LIST_BAD => Err(ListBad),
-        number => crate::unknown("libusage.a", number),
+        number => crate::unknown("libusage.a", format_args!("{number}")),
     }
 }
 

@@ -3,8 +3,8 @@
 use std::error::Error;
 
 use zolherima::{
-    feed, Accepted, Refusal, ENTRY, NO_PARTNER, NO_URL, OUT_BYTES, POLICY_WORDS, SCRIPT_BYTES,
-    STATE_WORDS,
+    feed, Accepted, Endpoint, Refusal, Scheme, ENTRY, NO_PARTNER, NO_URL, OUT_BYTES, POLICY_WORDS,
+    SCRIPT_BYTES, STATE_WORDS,
 };
 
 const ALL: u32 = u32::MAX;
@@ -60,6 +60,18 @@ impl Post {
     }
 }
 
+/// Readers forbid the record, and this endpoint is missing.
+fn readers_forbid(missing: u32) -> Result<Accepted, Refusal> {
+    let missing = Endpoint::new(missing).expect("there is such an endpoint");
+    Err(Refusal::ReadersForbid { missing })
+}
+
+/// The same of writers.
+fn writers_forbid(missing: u32) -> Result<Accepted, Refusal> {
+    let missing = Endpoint::new(missing).expect("there is such an endpoint");
+    Err(Refusal::WritersForbid { missing })
+}
+
 #[test]
 fn a_cookie_comes_with_a_response_and_goes_with_the_next_load() {
     let mut post = Post::new();
@@ -89,7 +101,7 @@ fn a_picture_is_requested_by_a_script_and_runs_none() {
 fn a_host_that_is_always_https_is_called_by_https() {
     let mut post = Post::new();
     let load = [0x03, 3, 0];
-    assert_eq!(post.feed(&load), Err(Refusal::WritersForbid));
+    assert_eq!(post.feed(&load), writers_forbid(0));
     post.policy[HTTPS_HOSTS] = 1;
     assert_eq!(post.feed(&load), Err(Refusal::PolicyBad));
     post.policy[PARTNERS + 3] = 0;
@@ -112,9 +124,9 @@ fn front_page() -> Post {
 #[test]
 fn anyone_may_link_to_an_entry() {
     let mut post = front_page();
-    assert_eq!(post.feed(&[0x23, 1, 1, 5]), Err(Refusal::WritersForbid));
+    assert_eq!(post.feed(&[0x23, 1, 1, 5]), writers_forbid(0));
     assert_eq!(post.sends(&[0x23, 1, 1, 4]), [0x03, 4, 1]);
-    assert_eq!(post.feed(&[0x23, 4, 1, 5]), Err(Refusal::WritersForbid));
+    assert_eq!(post.feed(&[0x23, 4, 1, 5]), writers_forbid(0));
     for (op, request) in [(5, &[0x0b, 4, 1, 9][..]), (7, &[0x43, 4, 1])] {
         let mut post = front_page();
         post.scripts[..8].copy_from_slice(&[op, 4, 1, 9, op, 5, 1, 9]);
@@ -127,10 +139,10 @@ fn anyone_may_link_to_an_entry() {
 fn an_entry_is_excused_from_nothing_else() {
     let mut post = front_page();
     post.policy[13] = 0x10001;
-    assert_eq!(post.feed(&[0x23, 1, 1, 4]), Err(Refusal::ReadersForbid));
+    assert_eq!(post.feed(&[0x23, 1, 1, 4]), readers_forbid(1));
     let mut post = front_page();
     post.policy[453] = ALL ^ 0x10000;
-    assert_eq!(post.feed(&[0x23, 1, 1, 4]), Err(Refusal::WritersForbid));
+    assert_eq!(post.feed(&[0x23, 1, 1, 4]), writers_forbid(16));
     for op in [5, 7] {
         let mut post = front_page();
         post.scripts[..4].copy_from_slice(&[op, 4, 0, 9]);
@@ -154,7 +166,7 @@ fn an_address_word_is_an_address_or_an_entrys() {
 
 #[test]
 fn records_are_refused_by_name_and_change_nothing() {
-    let refused: [(&[u8], Refusal); 11] = [
+    let refused: [(&[u8], Refusal); 9] = [
         (&[], Refusal::KindUnknown),
         (&[0x07, 0, 0, 0x01, 0, 0, 0, 7], Refusal::KindUnknown),
         (&[0x0f, 0, 0, 0, 0], Refusal::KeyMapEmpty),
@@ -164,13 +176,14 @@ fn records_are_refused_by_name_and_change_nothing() {
         (&[0x03, 0, 0, 0], Refusal::CutOrTooLong),
         (&[0x03, 64, 0], Refusal::NameUnknown),
         (&[0x0b, 0, 0, 0], Refusal::NotAwaited),
-        (&[0x03, 0, 1], Refusal::ReadersForbid),
-        (&[0x03, 3, 0], Refusal::WritersForbid),
     ];
     let mut post = Post::new();
     for (record, refusal) in refused {
         assert_eq!(post.feed(record), Err(refusal), "{record:02x?}");
+        assert_eq!(refusal.missing(), None);
     }
+    assert_eq!(post.feed(&[0x03, 0, 1]), readers_forbid(1));
+    assert_eq!(post.feed(&[0x03, 3, 0]), writers_forbid(0));
     assert_eq!(post.state, [0; STATE_WORDS]);
     assert_eq!(post.out, [0; OUT_BYTES]);
 }
@@ -216,24 +229,105 @@ fn buffers_are_refused_by_their_length() {
     );
 }
 
+/// URL 4 is https at host 5, and connection 4 is free; connection 1 awaits URL 1.
+fn lacking_post(url_readers: u32, url_writers: u32, readers: u32, writers: u32) -> Post {
+    let mut post = Post::new();
+    post.policy[12..15].copy_from_slice(&[21, url_readers, url_writers]);
+    post.policy[451..454].copy_from_slice(&[readers, readers, writers]);
+    post.policy[460..463].copy_from_slice(&[readers, readers, writers]);
+    post.state[145] = 1 << 24 | 1;
+    post
+}
+
+#[test]
+fn each_condition_tells_what_is_missing() {
+    let (load, redirect) = ([0x03, 4, 4], [0x23, 1, 1, 4]);
+    let mut post = lacking_post(0x20, ALL, 0xc0, ALL);
+    assert_eq!(post.feed(&load), readers_forbid(6));
+    assert_eq!(post.feed(&redirect), readers_forbid(5));
+    let mut post = lacking_post(0x20, ALL, 0xe0, ALL);
+    assert_eq!(post.feed(&redirect), readers_forbid(6));
+    let mut post = lacking_post(ALL, 0, 0x20, 0x12);
+    assert_eq!(post.feed(&load), writers_forbid(21));
+    assert_eq!(post.feed(&redirect), writers_forbid(21));
+    let mut post = lacking_post(ALL, 0x20_0002, 0x20, 0x8020_0012);
+    assert!(post.feed(&load).is_ok());
+    assert_eq!(post.feed(&redirect), writers_forbid(4));
+    let mut post = lacking_post(ALL, ALL >> 1, 0x20, ALL);
+    assert_eq!(post.feed(&redirect), writers_forbid(31));
+    post.policy[12] += ENTRY;
+    assert!(post.feed(&redirect).is_ok());
+}
+
+/// URL 3, http at host 0, is named, and URL 0, https there, is asked for.
+#[test]
+fn what_is_missing_is_missing_for_the_partner() {
+    let mut post = Post::new();
+    post.policy[HTTPS_HOSTS] = 1;
+    post.policy[PARTNERS + 3] = 0;
+    post.policy[450] = 0x2;
+    assert_eq!(post.feed(&[0x03, 3, 0]), writers_forbid(16));
+}
+
+#[test]
+fn an_endpoint_is_a_scheme_at_a_host() {
+    for number in 0..32 {
+        let endpoint = Endpoint::new(number).expect("endpoints are below 32");
+        let (scheme, host) = match number < 16 {
+            true => (Scheme::Http, number),
+            false => (Scheme::Https, number - 16),
+        };
+        assert_eq!(endpoint.number(), number);
+        assert_eq!((endpoint.scheme(), endpoint.host()), (scheme, host));
+        assert_eq!(endpoint.to_string(), format!("{scheme} at host {host}"));
+    }
+    for number in (32..600).chain([1 << 16, ALL]) {
+        assert_eq!(Endpoint::new(number), None);
+    }
+    assert_eq!(Scheme::Http.to_string(), "http");
+    assert_eq!(Scheme::Https.to_string(), "https");
+    const HTTPS_AT_1: Option<Endpoint> = Endpoint::new(17);
+    assert_eq!(HTTPS_AT_1.map(Endpoint::host), Some(1));
+}
+
 #[test]
 fn refusals_are_listed_as_they_are_asked() {
-    let asked: Vec<u32> = Refusal::ALL
-        .iter()
-        .map(|refusal| refusal.number())
-        .collect();
+    let asked: Vec<u32> = Refusal::LIST.iter().map(|(number, _)| *number).collect();
     assert_eq!(asked, [1, 2, 3, 4, 10, 12, 11, 6, 7, 8, 9]);
+    for (_, words) in Refusal::LIST {
+        assert!(words.starts_with("the "), "{words}");
+    }
 }
 
 #[test]
 fn a_refusal_has_its_number_and_its_words() {
-    assert_eq!(Refusal::OutputShort.number(), 1);
-    assert_eq!(Refusal::KindUnknown.number(), 10);
-    assert_eq!(Refusal::KeyMapEmpty.number(), 12);
-    assert_eq!(Refusal::CutOrTooLong.number(), 11);
-    assert_eq!(Refusal::WritersForbid.number(), 9);
-    for &refusal in Refusal::ALL {
+    let missing = Endpoint::new(17).expect("there is such an endpoint");
+    let refusals: [(Refusal, u32); 11] = [
+        (Refusal::OutputShort, 1),
+        (Refusal::PolicyBad, 2),
+        (Refusal::ScriptsBad, 3),
+        (Refusal::StateUnsound, 4),
+        (Refusal::KindUnknown, 10),
+        (Refusal::KeyMapEmpty, 12),
+        (Refusal::CutOrTooLong, 11),
+        (Refusal::NameUnknown, 6),
+        (Refusal::NotAwaited, 7),
+        (Refusal::ReadersForbid { missing }, 8),
+        (Refusal::WritersForbid { missing }, 9),
+    ];
+    for ((refusal, number), &listed) in refusals.into_iter().zip(Refusal::LIST) {
         let error: Box<dyn Error> = Box::new(refusal);
-        assert!(error.to_string().starts_with("the "), "{error}");
+        let told = match refusal.missing() {
+            Some(_) => ": https at host 1 is missing",
+            None => "",
+        };
+        assert_eq!(refusal.number(), number);
+        assert_eq!(listed.0, number);
+        assert_eq!(error.to_string(), format!("{}{told}", listed.1));
     }
+    let forbidden = Refusal::ReadersForbid { missing };
+    assert_eq!(
+        forbidden.to_string(),
+        "the readers of the connection and the URL forbid it: https at host 1 is missing"
+    );
 }

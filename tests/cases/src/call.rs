@@ -26,7 +26,7 @@ impl Call {
         } else {
             state::make_sound(setting, &mut self.state, random);
         }
-        record::make_record(setting, &self.state, &mut self.record, random);
+        self.make_record(setting, random);
         self.make_out(random);
         if random.one_in(5) {
             self.damage(setting, random);
@@ -45,11 +45,20 @@ impl Call {
 
     /// The next call of a run. `state` is as the last call left it.
     pub fn make_next(&mut self, setting: &Setting, random: &Random) {
-        record::make_record(setting, &self.state, &mut self.record, random);
+        self.make_record(setting, random);
         self.make_out(random);
         if random.one_in(48) {
             damage::damage_out(&mut self.out, random);
         }
+    }
+
+    /// A record of any kind; some more than by chance are forbidden by labels, for which endpoint is told.
+    fn make_record(&mut self, setting: &Setting, random: &Random) {
+        let make = match random.one_in(16) {
+            true => record::make_forbidden,
+            false => record::make_record,
+        };
+        make(setting, &self.state, &mut self.record, random);
     }
 
     /// An output that is long enough, with anything in it. Mostly that is what the last one had: filling it takes longer than a call.

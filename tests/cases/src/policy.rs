@@ -48,6 +48,9 @@ pub fn random_policy(random: &Random) -> Vec<u32> {
     if random.one_in(2) {
         make_entries(&mut policy, random);
     }
+    if random.one_in(8) {
+        take_endpoints(&mut policy, random);
+    }
     policy
 }
 
@@ -171,6 +174,21 @@ pub fn make_entries(policy: &mut [u32], random: &Random) {
             policy[3 * row + 2] &= kept;
         }
     }
+}
+
+/// Takes the same from some readers and writers of URLs and connections: the first endpoint, the last one, or both of a host. So it is often these
+/// that are missing, and nothing else.
+fn take_endpoints(policy: &mut [u32], random: &Random) {
+    let of_host = 0x0001_0001 << random.below(HOSTS);
+    let taken: u32 = random.pick(&[1, 1 << 31, of_host]);
+    let urls = places_in(rows(policy, Url::exists)).flat_map(|row| [3 * row + 1, 3 * row + 2]);
+    let connections = (CONNECTIONS_AT..HTTPS_HOSTS_AT).step_by(3);
+    for place in urls.chain(connections.flat_map(|place| [place, place + 2])) {
+        if random.one_in(6) {
+            policy[place] &= !taken;
+        }
+    }
+    well_formed(policy);
 }
 
 /// A URL of this address in an empty row, with the sets of another URL; where no row is empty, one of the other address, which has the same

@@ -128,6 +128,19 @@ pub fn make_accepted(setting: &Setting, state: &[u32], record: &mut Vec<u8>, ran
     accepted(setting, state, random).write(record);
 }
 
+/// A load or a redirect that labels forbid, where there is one for a connection that is drawn.
+pub fn make_forbidden(setting: &Setting, state: &[u32], record: &mut Vec<u8>, random: &Random) {
+    let mut fields = accepted(setting, state, random);
+    if fields.map == LOAD {
+        let url = setting.forbidden_url(fields.connection, random);
+        fields.url = url.unwrap_or(fields.url);
+    } else if let Some(target) = setting.forbidden_target(fields.connection, random) {
+        fields.map = REDIRECT | fields.map & COOKIES;
+        fields.target = target;
+    }
+    fields.write(record);
+}
+
 fn accepted(setting: &Setting, state: &[u32], random: &Random) -> Fields {
     let open = random.bit_of(open_connections(state));
     match open {

@@ -170,6 +170,23 @@ impl Setting {
         random.bit_of(self.fit_targets[n] ^ self.targets[n])
     }
 
+    /// A URL that cannot be loaded on the connection.
+    pub fn forbidden_url(&self, connection: u8, random: &Random) -> Option<u8> {
+        self.outside(self.loads[usize::from(connection)], random)
+    }
+
+    /// A URL that the connection may not be redirected to.
+    pub fn forbidden_target(&self, connection: u8, random: &Random) -> Option<u8> {
+        self.outside(self.targets[usize::from(connection)], random)
+    }
+
+    /// A URL that is none of these: one that has a partner, if there is one.
+    fn outside(&self, rows: u64, random: &Random) -> Option<u8> {
+        let others = self.urls & !rows;
+        let upgraded = random.bit_of(others & self.upgraded);
+        upgraded.or_else(|| random.bit_of(others))
+    }
+
     pub fn fits_none(&self, connection: u8) -> bool {
         self.fits[usize::from(connection)] == 0
     }

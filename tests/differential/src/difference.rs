@@ -1,6 +1,7 @@
 //! What of a call's result is compared.
 
 use cases::difference::{Difference, Subject};
+use reference::layout::NONE_MISSING;
 use reference::Answer;
 
 use crate::buffers::Buffers;
@@ -21,6 +22,7 @@ impl Outcome {
                 number: 0,
                 bytes: 0,
                 steps: 0,
+                missing: NONE_MISSING,
             },
             buffers: Buffers::default(),
         }
@@ -36,6 +38,7 @@ impl Outcome {
         answered("number", theirs.number, ours.number)?;
         answered("bytes", theirs.bytes, ours.bytes)?;
         answered("steps", theirs.steps, ours.steps)?;
+        answered("missing", theirs.missing, ours.missing)?;
         let (ours, theirs) = (&self.buffers, &expected.buffers);
         self.monitor
             .gave("state", theirs.state.inside(), ours.state.inside())?;

@@ -4,10 +4,12 @@ use cases::difference::Difference;
 use cases::guarded::flip;
 use cases::labels::{DOCUMENT, OPEN_AT, PICTURE, SCRIPT, STEP_BYTES};
 use cases::record::{COOKIES, DOCUMENT_RESPONSE, PICTURE_RESPONSE, REDIRECT, SCRIPT_RESPONSE};
+use reference::layout::NONE_MISSING;
 use reference::numbers::{CUT_OR_TOO_LONG, KEY_MAP_EMPTY, READERS_FORBID, WRITERS_FORBID};
 use reference::Answer;
 use zolherima::Refusal;
 
+use crate::asked::pending;
 use crate::buffers::Buffers;
 use crate::case::play;
 use crate::checker::{Checker, Monitor};
@@ -15,7 +17,7 @@ use crate::monitors;
 
 /// So many cases are passed by an honest monitor; a fault is found in them or, where it is rare, in so many more.
 const HONEST_CASES: u64 = 64;
-const CASES: u64 = 1_024;
+const CASES: u64 = 4_096;
 
 /// The first difference that some cases find.
 fn first_difference(monitor: Monitor, cases: u64) -> Option<Difference> {
@@ -37,7 +39,7 @@ pub fn honest(buffers: &mut Buffers) -> Answer {
 }
 
 /// A monitor that gives another answer than it should.
-fn answering(change: fn(Answer) -> Answer) -> Monitor {
+pub fn answering(change: impl Fn(Answer) -> Answer + 'static) -> Monitor {
     Box::new(move |buffers| change(honest(buffers)))
 }
 
@@ -103,11 +105,7 @@ pub fn missending(mistake: impl Fn(&mut Buffers) + 'static) -> Monitor {
 
 /// A monitor that also refuses by this number where this holds: asked only of what no number up to it refuses.
 pub fn refusing(number: u32, refused: impl Fn(&Buffers) -> bool + 'static) -> Monitor {
-    let place = |of| {
-        Refusal::ALL
-            .iter()
-            .position(|refusal| refusal.number() == of)
-    };
+    let place = |of| Refusal::LIST.iter().position(|(number, _)| *number == of);
     Box::new(move |buffers| {
         let mut kept = buffers.clone();
         let answer = honest(&mut kept);
@@ -117,6 +115,7 @@ pub fn refusing(number: u32, refused: impl Fn(&Buffers) -> bool + 'static) -> Mo
                 number,
                 bytes: 0,
                 steps: 0,
+                missing: NONE_MISSING,
             };
         }
         buffers.copy_written(&kept);
@@ -194,7 +193,8 @@ fn a_response_taken_on_another_kind_is_found() {
 #[test]
 fn a_script_on_a_picture_response_is_found() {
     let runs = mistaking(|buffers| {
-        if let &[PICTURE_RESPONSE, url, connection] = buffers.record.inside() {
+        let awaited = pending(buffers).is_some_and(|held| held.kind == PICTURE);
+        if let (true, &[PICTURE_RESPONSE, url, connection]) = (awaited, buffers.record.inside()) {
             mistake_kind(buffers, PICTURE_RESPONSE, PICTURE, DOCUMENT);
             mistake_steps(buffers, |_| true);
             let response = [DOCUMENT_RESPONSE, url, connection, 0];

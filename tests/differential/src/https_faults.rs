@@ -56,22 +56,22 @@ fn a_url_that_is_replaced_in_a_response_is_found() {
 
 #[test]
 fn a_url_that_is_not_replaced_is_found() {
-    for of_map in [LOAD, REDIRECT] {
+    for (of_map, what) in [(LOAD, "state"), (REDIRECT, "answer's number")] {
         let leaves = mistaking(move |buffers| {
             if map(buffers) == of_map {
                 unlist(buffers);
             }
         });
-        assert_found(leaves, "state");
+        assert_found(leaves, what);
     }
-    for (other_op, what) in [(PICTURE_STEP, "state"), (SEND_STEP, "answer's bytes")] {
+    for other_op in [PICTURE_STEP, SEND_STEP] {
         let leaves = mistaking(move |buffers| {
             if RESPONSES.contains(&map(buffers)) {
                 upgrade_steps(buffers, other_op);
                 unlist(buffers);
             }
         });
-        assert_found(leaves, what);
+        assert_found(leaves, "state");
     }
 }
 

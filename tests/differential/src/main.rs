@@ -17,6 +17,8 @@ mod faults;
 mod generated;
 #[cfg(test)]
 mod https_faults;
+#[cfg(test)]
+mod missing_faults;
 mod monitors;
 mod replay;
 mod tally;

@@ -1,10 +1,12 @@
 //! The monitors that are compared, each over the five buffers.
 
+use reference::layout::NONE_MISSING;
 use reference::{Answer, Seen};
+use zolherima::Endpoint;
 
 use crate::buffers::Buffers;
 
-/// The proved library. Its binding tells a refusal by its number alone.
+/// The proved library. Its binding tells a refusal by its number alone, and the endpoint that is missing where labels forbid the record.
 pub fn library(buffers: &mut Buffers) -> Answer {
     let fed = zolherima::feed(
         buffers.policy.inside(),
@@ -18,11 +20,13 @@ pub fn library(buffers: &mut Buffers) -> Answer {
             number: 0,
             bytes: u32::try_from(accepted.bytes).expect("the count is one of 32 bits"),
             steps: accepted.steps,
+            missing: NONE_MISSING,
         },
         Err(refusal) => Answer {
             number: refusal.number(),
             bytes: 0,
             steps: 0,
+            missing: refusal.missing().map_or(NONE_MISSING, Endpoint::number),
         },
     }
 }

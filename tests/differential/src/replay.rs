@@ -49,8 +49,8 @@ fn print_outcome(outcome: &Outcome) {
         buffers,
     } = outcome;
     println!(
-        "{}: number {:x}, bytes {:x}, steps {:x}",
-        monitor.0, answer.number, answer.bytes, answer.steps
+        "{}: number {:x}, bytes {:x}, steps {:x}, missing {:x}",
+        monitor.0, answer.number, answer.bytes, answer.steps, answer.missing
     );
     print_words("state after", buffers.state.inside());
     print_bytes("output after", buffers.out.inside());

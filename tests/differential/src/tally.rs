@@ -62,9 +62,8 @@ impl Tally {
     }
 
     fn print_numbers(&self) {
-        let accepted = (0, "accepted".to_string());
-        let refusals = Refusal::ALL.iter().map(|r| (r.number(), r.to_string()));
-        for (number, meaning) in once(accepted).chain(refusals) {
+        let refusals = Refusal::LIST.iter().copied();
+        for (number, meaning) in once((0, "accepted")).chain(refusals) {
             let count = self.numbers.get(&number).copied().unwrap_or(0);
             println!("{number:>2} {meaning:<63}{count:>12}");
         }

@@ -53,7 +53,10 @@ mod tests {
 
     #[test]
     fn the_first_line_that_differs_is_told() {
-        let told = judge("1 0 3 0\nend 1 0\n", &ran("1 0 3 0\ncut 1 0\n", "", 0));
+        let told = judge(
+            "1 0 3 0 32\nend 1 0\n",
+            &ran("1 0 3 0 32\ncut 1 0\n", "", 0),
+        );
         let line = r#"line 2: expected "end 1 0\n", found "cut 1 0\n""#;
         assert_eq!(told, Err(line.to_string()));
     }

@@ -75,6 +75,15 @@ impl EntryEvents {
     }
 }
 
+/// Notes where a redirect's message endpoint forbids an entry that does not have
+/// the writers either, from which it is excused.
+pub fn note_message(asked: &Asked, judged: Result<(), Event>, seen: &mut Seen) {
+    let is_message = judged == Err(Event::WritersRedirectMessage);
+    if is_message && !asked.writers.within(asked.url.writers) {
+        note(&asked.url, Event::RedirectEntryMessageOutside, seen);
+    }
+}
+
 /// Notes what labels say of a load of this URL, which is asked for in place of
 /// the row that was named, on a connection that has these writers.
 pub fn note_load(

@@ -29,11 +29,27 @@ pub fn feed_fast(
 ) -> Answer {
     match judge(policy, scripts, state, record, out) {
         Ok(answer) => answer,
-        Err(number) => Answer {
+        Err(Refusal { number, missing }) => Answer {
             number,
             bytes: 0,
             steps: 0,
+            missing,
         },
+    }
+}
+
+/// What an answer has that refuses a record.
+struct Refusal {
+    number: u32,
+    missing: u32,
+}
+
+/// A refusal by another number than 8 and 9.
+#[inline(always)]
+fn refused(number: u32) -> Refusal {
+    Refusal {
+        number,
+        missing: NONE_MISSING,
     }
 }
 
@@ -45,19 +61,19 @@ fn judge(
     state: &mut [u32],
     record: &[u8],
     out: &mut [u8],
-) -> Result<Answer, u32> {
-    let out: &mut Output = out.first_chunk_mut().ok_or(OUTPUT_SHORT)?;
-    let policy: &Policy = policy.try_into().map_err(|_| POLICY_BAD)?;
-    let some_empty = urls_well_formed(policy).ok_or(POLICY_BAD)?;
+) -> Result<Answer, Refusal> {
+    let out: &mut Output = out.first_chunk_mut().ok_or(refused(OUTPUT_SHORT))?;
+    let policy: &Policy = policy.try_into().map_err(|_| refused(POLICY_BAD))?;
+    let some_empty = urls_well_formed(policy).ok_or(refused(POLICY_BAD))?;
     if !connections_well_formed(policy) || !partners_well_formed(policy) {
-        return Err(POLICY_BAD);
+        return Err(refused(POLICY_BAD));
     }
-    let scripts: &[u8; SCRIPTS_BYTES] = scripts.try_into().map_err(|_| SCRIPTS_BAD)?;
-    let state: &mut State = state.try_into().map_err(|_| STATE_UNSOUND)?;
+    let scripts: &[u8; SCRIPTS_BYTES] = scripts.try_into().map_err(|_| refused(SCRIPTS_BAD))?;
+    let state: &mut State = state.try_into().map_err(|_| refused(STATE_UNSOUND))?;
     if !cookies_sound(state) || !pending_sound(policy, some_empty, state) {
-        return Err(STATE_UNSOUND);
+        return Err(refused(STATE_UNSOUND));
     }
-    let mut record = read_record(record).ok_or_else(|| why_malformed(record))?;
+    let mut record = read_record(record).ok_or_else(|| refused(why_malformed(record)))?;
     upgrade_record(policy, &mut record);
     check_record(policy, state, &record)?;
     Ok(carry_out(policy, scripts, state, &record, out))
@@ -126,6 +142,12 @@ fn pending(state: &mut State, connection: u32) -> &mut u32 {
 #[inline(always)]
 fn holds(set: u32, endpoint: u32) -> bool {
     set >> (endpoint % ADDRESSES) & 1 == 1
+}
+
+/// The set of one endpoint.
+#[inline(always)]
+fn only(endpoint: u32) -> u32 {
+    1 << (endpoint % ADDRESSES)
 }
 
 /// The part of the first set that is outside the second.
@@ -457,52 +479,68 @@ fn upgrade_record(policy: &Policy, record: &mut Record) {
 
 /// Numbers 6 to 9.
 #[inline(always)]
-fn check_record(policy: &Policy, state: &mut State, record: &Record) -> Result<(), u32> {
+fn check_record(policy: &Policy, state: &mut State, record: &Record) -> Result<(), Refusal> {
     let url = url_row(policy, record.url);
     if record.url > 63 || record.connection > 31 || url[0] == NO_ADDRESS {
-        return Err(NAME_UNKNOWN);
+        return Err(refused(NAME_UNKNOWN));
     }
     let row = connection_row(policy, record.connection);
     let word = *pending(state, record.connection);
     let same_url = word % 256 == record.url;
     let check_awaited = |kind| check_match(same_url && word >> 24 == kind);
     match record.kind {
-        Kind::Load => check_fit(outside(row[0], url[1]), holds(row[2], address_of(url[0]))),
-        Kind::Document(script) if script > 15 => Err(NAME_UNKNOWN),
+        Kind::Load => check_labels([
+            (READERS_FORBID, outside(row[0], url[1])),
+            (WRITERS_FORBID, outside(only(address_of(url[0])), row[2])),
+        ]),
+        Kind::Document(script) if script > 15 => Err(refused(NAME_UNKNOWN)),
         Kind::Document(_) => check_awaited(KIND_DOCUMENT),
         Kind::Script(_) => check_awaited(KIND_SCRIPT),
         Kind::Picture => check_awaited(KIND_PICTURE),
         Kind::Redirect(target) => {
             let to = url_row(policy, target);
             if target > 63 || to[0] == NO_ADDRESS {
-                return Err(NAME_UNKNOWN);
+                return Err(refused(NAME_UNKNOWN));
             }
             check_match(same_url && word != 0)?;
-            let event = u32::from(!holds(row[0], host_of(to[0])));
-            let message = holds(row[2], address_of(to[0]));
-            let writers = message && outside(row[2], admitted(&to)) == 0;
-            check_fit(event | outside(row[0], to[1]), writers)
+            check_labels([
+                (READERS_FORBID, outside(only(host_of(to[0])), row[0])),
+                (READERS_FORBID, outside(row[0], to[1])),
+                (WRITERS_FORBID, outside(only(address_of(to[0])), row[2])),
+                (WRITERS_FORBID, outside(row[2], admitted(&to))),
+            ])
         }
     }
 }
 
 /// Number 7.
 #[inline(always)]
-fn check_match(matches: bool) -> Result<(), u32> {
+fn check_match(matches: bool) -> Result<(), Refusal> {
     match matches {
         true => Ok(()),
-        false => Err(NOT_AWAITED),
+        false => Err(refused(NOT_AWAITED)),
     }
 }
 
-/// Numbers 8 and 9.
+/// Numbers 8 and 9: what is missing in each condition, with the condition's
+/// number, in the order in which they are asked. All are tried together, since
+/// most records that come so far are accepted.
 #[inline(always)]
-fn check_fit(readers_outside: u32, writers_fit: bool) -> Result<(), u32> {
-    match (readers_outside, writers_fit) {
-        (0, true) => Ok(()),
-        (0, false) => Err(WRITERS_FORBID),
-        _ => Err(READERS_FORBID),
+fn check_labels<const CONDITIONS: usize>(
+    conditions: [(u32, u32); CONDITIONS],
+) -> Result<(), Refusal> {
+    let any = conditions.iter().fold(0, |any, (_, missing)| any | missing);
+    if any == 0 {
+        return Ok(());
     }
+    let failing = conditions.into_iter().find(|(_, missing)| *missing != 0);
+    // Some condition fails, so there is a first: the default is never taken, and
+    // no code for a panic stands here.
+    let (number, missing) = failing.unwrap_or_default();
+    Err(Refusal {
+        number,
+        missing: missing.trailing_zeros(),
+    })
 }
 
 /// What an accepted record does.
@@ -545,6 +583,7 @@ fn without_script(bytes: usize) -> Answer {
         number: ACCEPTED,
         bytes: bytes as u32,
         steps: 0,
+        missing: NONE_MISSING,
     }
 }
 
@@ -707,6 +746,7 @@ fn run(
         number: ACCEPTED,
         bytes: interpreter.bytes as u32,
         steps: count,
+        missing: NONE_MISSING,
     }
 }
 

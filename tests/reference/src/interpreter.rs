@@ -243,7 +243,7 @@ impl Interpreter<'_> {
         require(other.readers_fit(url), step.fit_readers)?;
         require(other.writers_fit(url), step.fit_writers)?;
         require(own.writers.within(other.writers), step.writers)?;
-        require(url.admits(own.writers), step.url_writers)
+        require(own.writers_admitted(url), step.url_writers)
     }
 
     /// Opens a connection, replacing what was there, and sends its request;
@@ -299,7 +299,7 @@ impl Interpreter<'_> {
 
     /// A URL that was checked.
     fn url(&self, number: usize) -> &Url {
-        self.policy.url(number).expect("the URL was checked")
+        self.policy.known_url(number)
     }
 
     /// What a script does whose page is an entry.

@@ -1,4 +1,4 @@
-//! The numbers that document 01 fixes: lengths, places, maps and ops.
+//! The numbers that documents 01 and 02 fix: lengths, places, maps and ops.
 
 /// Rows of the policy, one for each URL.
 pub const URLS: usize = 64;
@@ -60,6 +60,8 @@ pub const ADDRESSES: u32 = 32;
 pub const ENTRY: u32 = 32;
 /// The partner of a row that has none.
 pub const NO_PARTNER: u32 = 255;
+/// What an answer has in place of an endpoint where none is missing.
+pub const NONE_MISSING: u32 = 32;
 
 /// Kind of a connection that waits for a document.
 pub const KIND_DOCUMENT: u32 = 1;

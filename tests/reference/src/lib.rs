@@ -13,7 +13,9 @@ mod entry;
 mod fast;
 mod interpreter;
 mod kind;
+mod labels;
 pub mod layout;
+mod missing;
 mod monitor;
 pub mod numbers;
 mod policy;
@@ -46,4 +48,7 @@ pub struct Answer {
     pub bytes: u32,
     /// Script steps run.
     pub steps: u32,
+    /// The endpoint that is missing where labels forbid the record, else
+    /// [`layout::NONE_MISSING`].
+    pub missing: u32,
 }

@@ -3,9 +3,11 @@
 use crate::entry::{self, Asked};
 use crate::interpreter::Interpreter;
 use crate::kind::ConnectionKind;
+use crate::labels::{self, Condition, Forbidden};
 use crate::layout::*;
+use crate::missing;
 use crate::numbers::*;
-use crate::policy::{ConnectionTag, Policy, Url};
+use crate::policy::{ConnectionTag, Policy};
 use crate::record::{self, Kind, Record};
 use crate::request::write_request;
 use crate::seen::{Event, Seen};
@@ -40,6 +42,7 @@ pub fn feed_noting(
                 number: refusal.number,
                 bytes: 0,
                 steps: 0,
+                missing: refusal.missing,
             }
         }
         Ok(mut accepted) => {
@@ -50,20 +53,36 @@ pub fn feed_noting(
                 number: ACCEPTED,
                 bytes: accepted.output.len() as u32,
                 steps,
+                missing: NONE_MISSING,
             }
         }
     }
 }
 
-/// A refusal: its number and the clause that applied.
+/// A refusal: its number, the clause that applied, and what is missing.
 struct Refusal {
     number: u32,
     clause: Event,
+    missing: u32,
 }
 
-/// Gives a clause its number.
+/// Gives a clause its number, where no endpoint is missing.
 fn refuse(number: u32) -> impl Fn(Event) -> Refusal {
-    move |clause| Refusal { number, clause }
+    move |clause| Refusal {
+        number,
+        clause,
+        missing: NONE_MISSING,
+    }
+}
+
+impl From<Forbidden> for Refusal {
+    fn from(forbidden: Forbidden) -> Refusal {
+        Refusal {
+            number: forbidden.number,
+            clause: forbidden.clause,
+            missing: forbidden.missing.0,
+        }
+    }
 }
 
 /// The monitor's numbers, first that applies.
@@ -87,9 +106,9 @@ fn judge(
     let record = record::upgraded(&named, &policy);
     record::check_numbers(&record, &policy).map_err(refuse(NAME_UNKNOWN))?;
     check_match(&record, &state, &policy).map_err(refuse(NOT_AWAITED))?;
-    note_labels(&record, &named, &policy, seen);
-    check_readers(&record, &policy).map_err(refuse(READERS_FORBID))?;
-    check_writers(&record, &policy).map_err(refuse(WRITERS_FORBID))?;
+    let conditions = labels::conditions(&record, &policy);
+    note_labels(&record, &named, &conditions, &policy, seen);
+    labels::check(&conditions)?;
     Ok(Accepted {
         policy,
         state,
@@ -149,47 +168,6 @@ fn match_clause(response: ConnectionKind, connection: ConnectionKind) -> Event {
     }
 }
 
-/// A load's connection readers are within the URL's readers; a redirect
-/// target's event endpoint is in the connection's readers, and these are
-/// within the target's readers.
-fn check_readers(record: &Record, policy: &Policy) -> Result<(), Event> {
-    let tag = policy.connection(record.connection);
-    match record.kind {
-        Kind::Load if !tag.readers_fit(known_url(policy, record.url)) => Err(Event::ReadersLoad),
-        Kind::Redirect => {
-            let target = known_url(policy, record.target);
-            if !tag.readers.holds(target.event_endpoint()) {
-                return Err(Event::ReadersRedirectEvent);
-            }
-            if !tag.readers_fit(target) {
-                return Err(Event::ReadersRedirect);
-            }
-            Ok(())
-        }
-        _ => Ok(()),
-    }
-}
-
-/// A load's message endpoint is in the connection's writers; so is a
-/// redirect target's, and the target admits the writers.
-fn check_writers(record: &Record, policy: &Policy) -> Result<(), Event> {
-    let tag = policy.connection(record.connection);
-    match record.kind {
-        Kind::Load if !tag.writers_fit(known_url(policy, record.url)) => Err(Event::WritersLoad),
-        Kind::Redirect => {
-            let target = known_url(policy, record.target);
-            if !tag.writers_fit(target) {
-                return Err(Event::WritersRedirectMessage);
-            }
-            if !target.admits(tag.writers) {
-                return Err(Event::WritersRedirect);
-            }
-            Ok(())
-        }
-        _ => Ok(()),
-    }
-}
-
 /// The events of a record whose URL or target was replaced.
 fn upgrade_of(kind: Kind) -> &'static Upgrade {
     match kind {
@@ -198,35 +176,42 @@ fn upgrade_of(kind: Kind) -> &'static Upgrade {
     }
 }
 
-/// What labels say of the record, and of the one that was named where that is
-/// another.
-fn note_labels(record: &Record, named: &Record, policy: &Policy, seen: &mut Seen) {
-    let labels = |of| check_readers(of, policy).and_then(|()| check_writers(of, policy));
+/// What labels say of the record, by its conditions, and of the one that was
+/// named where that is another.
+fn note_labels(
+    record: &Record,
+    named: &Record,
+    conditions: &[Condition],
+    policy: &Policy,
+    seen: &mut Seen,
+) {
+    let clause = |forbidden: Forbidden| forbidden.clause;
+    let checked = labels::check(conditions);
+    let judged = checked.map_err(clause);
+    missing::note(conditions, seen);
     if record != named {
-        upgrade_of(record.kind).note(labels(record), labels(named), seen);
+        let row = labels::check(&labels::conditions(named, policy));
+        missing::note_row(checked, row, seen);
+        upgrade_of(record.kind).note(judged, row.map_err(clause), seen);
     }
     let writers = policy.connection(record.connection).writers;
     match record.kind {
         Kind::Load => {
-            let urls = [record, named].map(|of| known_url(policy, of.url));
-            entry::note_load(urls, writers, labels(record), seen);
+            let urls = [record, named].map(|of| policy.known_url(of.url));
+            entry::note_load(urls, writers, judged, seen);
         }
         Kind::Redirect => {
             let asked = Asked {
-                url: *known_url(policy, record.target),
-                named: *known_url(policy, named.target),
-                from: *known_url(policy, record.url),
+                url: *policy.known_url(record.target),
+                named: *policy.known_url(named.target),
+                from: *policy.known_url(record.url),
                 writers,
             };
-            entry::REDIRECT.note(&asked, labels(record), seen);
+            entry::REDIRECT.note(&asked, judged, seen);
+            entry::note_message(&asked, judged, seen);
         }
         Kind::Response(_) => {}
     }
-}
-
-/// A URL whose number has been checked.
-fn known_url(policy: &Policy, number: usize) -> &Url {
-    policy.url(number).expect("the URL was checked")
 }
 
 /// A record that no number refuses, and what it works on.
@@ -335,7 +320,7 @@ impl Accepted {
     /// Each delivered cookie belongs to the host of the record's URL. One
     /// that may not be stored is passed over and the rest goes on.
     fn store_cookies(&mut self, seen: &mut Seen) {
-        let host = known_url(&self.policy, self.record.url).host();
+        let host = self.policy.known_url(self.record.url).host();
         let tag = self.policy.connection(self.record.connection);
         for &(key, value) in &self.record.cookies {
             let event = judge_cookie(&self.policy, tag, host, key);
@@ -392,7 +377,7 @@ impl Accepted {
     /// Of which kind a redirect is whose writers the target does not have.
     fn note_excused(&self, kind: ConnectionKind, seen: &mut Seen) {
         let tag = self.policy.connection(self.record.connection);
-        let target = known_url(&self.policy, self.record.target);
+        let target = self.policy.known_url(self.record.target);
         if !tag.writers.within(target.writers) {
             seen.note(match kind {
                 ConnectionKind::Document => Event::RedirectExcusedDocument,
@@ -406,7 +391,7 @@ impl Accepted {
         if self.record.kind == Kind::Response(ConnectionKind::Picture) {
             seen.note(Event::PictureResponseStores);
         }
-        let url = known_url(&self.policy, self.record.url);
+        let url = self.policy.known_url(self.record.url);
         entry::note(url, Event::CookieStoredEntry, seen);
     }
 }

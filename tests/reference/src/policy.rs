@@ -37,12 +37,6 @@ impl Url {
         self.address >= HOSTS as u32
     }
 
-    /// Whether a redirect or a script that these have shaped may ask for it:
-    /// they are within its writers, which is not asked of an entry.
-    pub fn admits(&self, writers: EndpointSet) -> bool {
-        self.is_entry || writers.within(self.writers)
-    }
-
     /// The clause that it breaks: the second one for an entry.
     pub fn clause(&self, of_other: Event, of_entry: Event) -> Event {
         match self.is_entry {
@@ -68,14 +62,44 @@ pub struct ConnectionTag {
 }
 
 impl ConnectionTag {
+    /// Its readers that the URL does not have.
+    pub fn readers_missing(&self, url: &Url) -> EndpointSet {
+        self.readers.missing_in(url.readers)
+    }
+
+    /// The URL's message endpoint, where it is not among the writers.
+    pub fn message_missing(&self, url: &Url) -> EndpointSet {
+        EndpointSet::of(url.message_endpoint()).missing_in(self.writers)
+    }
+
+    /// The URL's event endpoint, where it is not among the readers.
+    pub fn event_missing(&self, url: &Url) -> EndpointSet {
+        EndpointSet::of(url.event_endpoint()).missing_in(self.readers)
+    }
+
+    /// Its writers that the URL does not have, which is not asked of an entry.
+    /// They have shaped the redirect or the script that asks for the URL.
+    pub fn writers_missing(&self, url: &Url) -> EndpointSet {
+        match url.is_entry {
+            true => EndpointSet::EMPTY,
+            false => self.writers.missing_in(url.writers),
+        }
+    }
+
     /// First half of "fits": the connection's readers are within the URL's.
     pub fn readers_fit(&self, url: &Url) -> bool {
-        self.readers.within(url.readers)
+        self.readers_missing(url).is_empty()
     }
 
     /// Second half: the URL's message endpoint is among the writers.
     pub fn writers_fit(&self, url: &Url) -> bool {
-        self.writers.holds(url.message_endpoint())
+        self.message_missing(url).is_empty()
+    }
+
+    /// Whether the URL admits a redirect or a script that the writers have
+    /// shaped.
+    pub fn writers_admitted(&self, url: &Url) -> bool {
+        self.writers_missing(url).is_empty()
     }
 }
 
@@ -118,6 +142,11 @@ impl Policy {
         self.urls.get(number)?.as_ref()
     }
 
+    /// A URL whose number has been checked.
+    pub fn known_url(&self, number: usize) -> &Url {
+        self.url(number).expect("the URL was checked")
+    }
+
     /// The number 0 to 63 after the replacement: that of the row's partner,
     /// where it has one.
     pub fn upgraded(&self, number: usize) -> usize {
@@ -145,7 +174,7 @@ impl Policy {
 fn read_url(words: &[u32]) -> Result<Option<Url>, Event> {
     let [readers, writers] = [words[1], words[2]].map(EndpointSet);
     if words[0] == NO_ADDRESS {
-        let empty = readers == EndpointSet::EMPTY && writers == EndpointSet::EMPTY;
+        let empty = readers.is_empty() && writers.is_empty();
         return if empty {
             Ok(None)
         } else {

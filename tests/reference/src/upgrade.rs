@@ -51,7 +51,7 @@ impl Upgrade {
         [partner, row]: [usize; 2],
         seen: &mut Seen,
     ) {
-        let [partner, row] = [partner, row].map(|n| policy.url(n).expect("the URL was checked"));
+        let [partner, row] = [partner, row].map(|number| policy.known_url(number));
         for key in (0..KEYS).filter(|&key| state.cookie(row.host(), key).is_some()) {
             let readers = policy.cookie(row.host(), key).readers;
             let gets = [partner, row].map(|url| readers.holds(url.message_endpoint()));

@@ -80,9 +80,10 @@ impl Journey<'_> {
             number,
             bytes,
             steps,
+            missing,
         } = answer;
         let place = self.accepted + self.refused;
-        self.print(format_args!("{place} {number} {bytes} {steps}"));
+        self.print(format_args!("{place} {number} {bytes} {steps} {missing}"));
         self.print_requests(&out[..bytes as usize]);
     }
 

@@ -1,6 +1,5 @@
 //! The address word of a row: which words there are, and which endpoints and host each of them has.
 
-#[allow(dead_code)] // walk is not run here
 mod common;
 #[path = "common/setup.rs"]
 mod setup;

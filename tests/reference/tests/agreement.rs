@@ -1,6 +1,8 @@
 //! Random calls: the plain and the fast monitor agree in all that they answer and leave, and every event occurs.
 
 use cases::{Call, Random, Setting};
+use reference::layout::NONE_MISSING;
+use reference::numbers::{READERS_FORBID, WRITERS_FORBID};
 use reference::{feed_fast, feed_noting, Event, Seen};
 
 const SEED: u64 = 5;
@@ -29,6 +31,9 @@ fn compare(call: &mut Call, seen: &mut Seen) {
         assert_eq!(*state, before);
         assert_eq!((plain.bytes, plain.steps), (0, 0));
     }
+    let is_forbidden = [READERS_FORBID, WRITERS_FORBID].contains(&plain.number);
+    assert_eq!(plain.missing < NONE_MISSING, is_forbidden, "{record:02x?}");
+    assert!(plain.missing <= NONE_MISSING);
 }
 
 #[test]

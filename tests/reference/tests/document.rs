@@ -1,12 +1,13 @@
-//! The cases of document 01.
+//! The cases of document 01. Every answer is asked whether an endpoint is missing
+//! just where labels forbid the record: by the session, or by comparing it whole.
 
 mod common;
 
 use cases::policy::document;
 use common::{for_each_feed, walk_input, Feed, Session, FEEDS};
 use reference::layout::{
-    OUTPUT_BYTES, POLICY_WORDS, SCRIPTS_BYTES, STATE_CONNECTIONS, STATE_PRESENT, STATE_WORDS,
-    WALK_LONGEST, WALK_SHORTEST,
+    NONE_MISSING, OUTPUT_BYTES, POLICY_WORDS, SCRIPTS_BYTES, STATE_CONNECTIONS, STATE_PRESENT,
+    STATE_WORDS, WALK_LONGEST, WALK_SHORTEST,
 };
 use reference::Answer;
 
@@ -32,20 +33,20 @@ fn a_load_is_accepted() {
 
 #[test]
 fn b_readers_refuse_a_load() {
-    for_each_feed(|mut session| assert_eq!(session.refuse(&[3, 0, 1]), 8));
+    for_each_feed(|mut session| assert_eq!(session.refusal(&[3, 0, 1]), (8, 1)));
 }
 
 #[test]
 fn c_writers_refuse_a_load() {
-    for_each_feed(|mut session| assert_eq!(session.refuse(&[3, 3, 0]), 9));
+    for_each_feed(|mut session| assert_eq!(session.refusal(&[3, 3, 0]), (9, 0)));
 }
 
 #[test]
 fn d_numbers_out_of_range() {
     for_each_feed(|mut session| {
-        assert_eq!(session.refuse(&[3, 4, 0]), 6);
-        assert_eq!(session.refuse(&[3, 64, 0]), 6);
-        assert_eq!(session.refuse(&[3, 0, 32]), 6);
+        assert_eq!(session.refusal(&[3, 4, 0]), (6, NONE_MISSING));
+        assert_eq!(session.refusal(&[3, 64, 0]), (6, NONE_MISSING));
+        assert_eq!(session.refusal(&[3, 0, 32]), (6, NONE_MISSING));
     });
 }
 
@@ -75,7 +76,7 @@ fn g_cookie_is_not_carried() {
 fn h_readers_refuse_a_redirect() {
     for_each_feed(|mut session| {
         after_a(&mut session);
-        assert_eq!(session.refuse(&[0x27, 0, 0, 1, 0, 0, 0, 9, 2]), 8);
+        assert_eq!(session.refusal(&[0x27, 0, 0, 1, 0, 0, 0, 9, 2]), (8, 1));
         assert_eq!((session.state[0], session.state[STATE_PRESENT]), (0, 0));
     });
 }
@@ -84,17 +85,18 @@ fn h_readers_refuse_a_redirect() {
 fn i_writers_refuse_a_redirect() {
     for_each_feed(|mut session| {
         assert_eq!(session.accept(&[3, 1, 1]).0, [3, 1, 1]);
-        assert_eq!(session.refuse(&[0x23, 1, 1, 2]), 9);
+        assert_eq!(session.refusal(&[0x23, 1, 1, 2]), (9, 0));
     });
 }
 
 #[test]
 fn j_malformed_records() {
     for_each_feed(|mut session| {
-        assert_eq!(session.refuse(&[]), 10);
-        assert_eq!(session.refuse(&[7, 0, 0, 1, 0, 0, 0, 7]), 10);
-        assert_eq!(session.refuse(&[7]), 10);
-        assert_eq!(session.refuse(&[0x0F, 0, 0, 0, 0]), 12);
+        let malformed = |number| (number, NONE_MISSING);
+        assert_eq!(session.refusal(&[]), malformed(10));
+        assert_eq!(session.refusal(&[7, 0, 0, 1, 0, 0, 0, 7]), malformed(10));
+        assert_eq!(session.refusal(&[7]), malformed(10));
+        assert_eq!(session.refusal(&[0x0F, 0, 0, 0, 0]), malformed(12));
     });
 }
 
@@ -270,15 +272,17 @@ fn feed_into(feed: Feed, record: &[u8], length: usize) -> Answer {
 
 #[test]
 fn a_short_output_buffer() {
+    let answer = |number, bytes| Answer {
+        number,
+        bytes,
+        steps: 0,
+        missing: NONE_MISSING,
+    };
+    let (accepted, refused) = (answer(0, 3), answer(1, 0));
     for (_, feed) in FEEDS {
-        let refused = Answer {
-            number: 1,
-            bytes: 0,
-            steps: 0,
-        };
         assert_eq!(feed_into(feed, &LOAD_0_ON_0, 0), refused);
         assert_eq!(feed_into(feed, &LOAD_0_ON_0, OUTPUT_BYTES - 1), refused);
-        assert_eq!(feed_into(feed, &LOAD_0_ON_0, OUTPUT_BYTES).number, 0);
+        assert_eq!(feed_into(feed, &LOAD_0_ON_0, OUTPUT_BYTES), accepted);
         for record in MALFORMED {
             assert_eq!(feed_into(feed, record, OUTPUT_BYTES - 1), refused);
         }
@@ -290,13 +294,13 @@ const WALK_RECORDS: [u8; 23] = [
 ];
 
 const WALK_LINES: &str = "\
-1 0 3 0
+1 0 3 0 32
 > 0 0 00
-2 0 0 1
-3 0 8 0
+2 0 0 1 32
+3 0 8 0 32
 > 0 0 01
-4 8 0 0
-5 10 0 0
+4 8 0 0 1
+5 10 0 0 32
 end 3 2
 ";
 
@@ -323,14 +327,14 @@ fn walk_prints_why_a_record_is_malformed() {
     let with_length = |record: &&[u8]| [&[record.len() as u8], *record].concat();
     let input = walk_input(&records.iter().flat_map(with_length).collect::<Vec<_>>());
     let lines = "\
-1 10 0 0
-2 10 0 0
-3 12 0 0
-4 12 0 0
-5 12 0 0
-6 11 0 0
-7 11 0 0
-8 11 0 0
+1 10 0 0 32
+2 10 0 0 32
+3 12 0 0 32
+4 12 0 0 32
+5 12 0 0 32
+6 11 0 0 32
+7 11 0 0 32
+8 11 0 0 32
 end 0 8
 ";
     assert_eq!(reference::walk(&input), lines);
@@ -353,7 +357,7 @@ fn walk_knows_short_and_long() {
     assert_eq!(reference::walk(&[]), "short\n");
     assert_eq!(reference::walk(&[0; WALK_LONGEST + 1]), "long\n");
     let zeros = reference::walk(&[0; WALK_LONGEST]);
-    assert!(zeros.starts_with("1 2 0 0\n2 2 0 0\n"));
+    assert!(zeros.starts_with("1 2 0 0 32\n2 2 0 0 32\n"));
     let refused = WALK_LONGEST - WALK_SHORTEST;
     assert!(zeros.ends_with(&format!("\nend 0 {refused}\n")));
 }
@@ -364,6 +368,6 @@ fn walk_prints_every_request() {
     let mut input = walk_input(&[3, 3, 1, 1, 4, 0x0B, 1, 1, 0]);
     let scripts = 4 * POLICY_WORDS;
     input[scripts..scripts + 8].copy_from_slice(&[5, 1, 1, 3, 5, 1, 1, 16]);
-    let lines = "1 0 3 0\n> 1 1 00\n2 0 4 2\n> 1 1 00\nend 2 0\n";
+    let lines = "1 0 3 0 32\n> 1 1 00\n2 0 4 2 32\n> 1 1 00\nend 2 0\n";
     assert_eq!(reference::walk(&input), lines);
 }

@@ -1,7 +1,6 @@
 //! The listed calls of `monitor_edges`: both monitors give what that program is held to. The comments at the top of its file stdin say what
 //! a directive is.
 
-#[allow(dead_code)] // only the list of the monitors is used here
 mod common;
 
 use std::fmt::Write;
@@ -72,8 +71,9 @@ impl Lent {
             number,
             bytes,
             steps,
+            missing,
         } = answer;
-        let mut text = format!("{line} : {number} {bytes} {steps} :");
+        let mut text = format!("{line} : {number} {bytes} {steps} {missing} :");
         let changed = state.iter().zip(&self.state).enumerate();
         for (place, (word, _)) in changed.filter(|(_, (word, old))| word != old) {
             write!(text, " {place:x}={word:x}").expect("a string takes every line");

@@ -10,14 +10,7 @@ mod setup;
 use common::{for_each_feed, walk_input, Session, FEEDS};
 use reference::layout::{ENTRY, POLICY_COOKIES, STATE_PRESENT};
 use reference::Event;
-use setup::{notes, open, set_connection, set_entry, set_row, set_script, word, ALL};
-
-/// A set of endpoints.
-fn set(endpoints: &[u32]) -> u32 {
-    endpoints
-        .iter()
-        .fold(0, |set, endpoint| set | 1 << endpoint)
-}
+use setup::{notes, open, set, set_connection, set_entry, set_row, set_script, word, ALL};
 
 // The search page: URL 1 on connection 1. At host 0, by https, URL 4 is the canteen's front page and URL 5 the page behind it: everyone may learn of
 // both, and only the canteen writes them.
@@ -426,13 +419,13 @@ fn walk_goes_to_the_front_page() {
     let policy = session.policy.iter().flat_map(|word| word.to_be_bytes());
     input.splice(..4 * session.policy.len(), policy);
     let lines = "\
-1 0 3 0
+1 0 3 0 32
 > 1 1 00
-2 9 0 0
-3 0 3 0
+2 9 0 0 0
+3 0 3 0 32
 > 4 1 00
-4 9 0 0
-5 0 3 0
+4 9 0 0 0
+5 0 3 0 32
 > 5 0 00
 end 3 2
 ";

@@ -3,7 +3,6 @@
 //! In P, URLs 0 and 3 are https and http at host 0. URL 0 has readers {0, 16} and writer 16, URL 3 has readers and writers {0, 16}; so has
 //! connection 3.
 
-#[allow(dead_code)] // walk is not run here
 mod common;
 #[path = "common/setup.rs"]
 mod setup;

@@ -906,14 +906,14 @@ fn walk_prints_the_partner() {
     set(POLICY_HTTPS_HOSTS, 1);
     set(POLICY_PARTNERS + 3, 0);
     let lines = "\
-1 0 3 0
+1 0 3 0 32
 > 0 0 00
-2 7 0 0
-3 0 0 1
-4 0 8 0
+2 7 0 0 32
+3 0 0 1 32
+4 0 8 0 32
 > 0 3 01
-5 8 0 0
-6 10 0 0
+5 8 0 0 1
+6 10 0 0 32
 end 3 3
 ";
     assert_eq!(reference::walk(&input), lines);

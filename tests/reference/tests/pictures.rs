@@ -381,15 +381,15 @@ fn walk_prints_pictures() {
     let scripts = 4 * POLICY_WORDS;
     input[scripts..scripts + 8].copy_from_slice(&[7, 0, 0, 255, 7, 0, 2, 0]);
     let lines = "\
-1 0 3 0
+1 0 3 0 32
 > 0 0 00
-2 0 16 3
+2 0 16 3 32
 > 0 0 01
 > 0 2 01
-3 0 0 0
-4 8 0 0
-5 0 0 0
-6 7 0 0
+3 0 0 0 32
+4 8 0 0 0
+5 0 0 0 32
+6 7 0 0 32
 end 4 2
 ";
     assert_eq!(reference::walk(&input), lines);

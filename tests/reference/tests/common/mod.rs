@@ -1,7 +1,10 @@
 //! A session to feed, under document 01's small policy P.
 
+#![allow(dead_code)] // no file of tests needs all of it
+
 use cases::policy::document;
-use reference::layout::{OUTPUT_BYTES, SCRIPTS_BYTES, STATE_WORDS};
+use reference::layout::{NONE_MISSING, OUTPUT_BYTES, SCRIPTS_BYTES, STATE_WORDS};
+use reference::numbers::{READERS_FORBID, WRITERS_FORBID};
 use reference::Answer;
 
 /// Any of the feeding functions.
@@ -41,9 +44,10 @@ impl Session {
         }
     }
 
-    /// Feeds a record; number, output and steps. Checks what holds of every
-    /// answer: a refusal changes nothing, bytes past the output stay.
-    pub fn feed(&mut self, record: &[u8]) -> (u32, Vec<u8>, u32) {
+    /// Feeds a record; the answer and the output. Checks what holds of every
+    /// answer: a refusal changes nothing, bytes past the output stay, and just
+    /// where labels forbid the record an endpoint is missing.
+    pub fn answer(&mut self, record: &[u8]) -> (Answer, Vec<u8>) {
         let mut out = vec![0xA5; OUTPUT_BYTES + 16];
         let before = self.state.clone();
         let answer = (self.feed)(
@@ -59,7 +63,17 @@ impl Session {
             assert_eq!((answer.bytes, answer.steps), (0, 0));
             assert_eq!(self.state, before);
         }
+        match answer.number {
+            READERS_FORBID | WRITERS_FORBID => assert!(answer.missing < 32),
+            _ => assert_eq!(answer.missing, NONE_MISSING),
+        }
         out.truncate(length);
+        (answer, out)
+    }
+
+    /// Feeds a record; number, output and steps.
+    pub fn feed(&mut self, record: &[u8]) -> (u32, Vec<u8>, u32) {
+        let (answer, out) = self.answer(record);
         (answer.number, out, answer.steps)
     }
 
@@ -75,6 +89,14 @@ impl Session {
         let (number, _, _) = self.feed(record);
         assert_ne!(number, 0);
         number
+    }
+
+    /// Feeds a record that is refused; the number, and the endpoint that is
+    /// missing or 32.
+    pub fn refusal(&mut self, record: &[u8]) -> (u32, u32) {
+        let (answer, _) = self.answer(record);
+        assert_ne!(answer.number, 0);
+        (answer.number, answer.missing)
     }
 }
 

@@ -13,6 +13,13 @@ use crate::common::Session;
 /// Every endpoint.
 pub const ALL: u32 = u32::MAX;
 
+/// A set of endpoints.
+pub fn set(endpoints: &[u32]) -> u32 {
+    endpoints
+        .iter()
+        .fold(0, |set, endpoint| set | 1 << endpoint)
+}
+
 /// Address word, readers and writers of a URL.
 pub fn set_row(session: &mut Session, row: usize, words: [u32; 3]) {
     session.policy[3 * row..][..3].copy_from_slice(&words);
@@ -28,6 +35,11 @@ pub fn set_entry(session: &mut Session, row: usize, is_entry: bool) {
 pub fn set_connection(session: &mut Session, connection: usize, readers: u32, writers: u32) {
     let words = [readers, readers, writers];
     session.policy[POLICY_CONNECTIONS + 3 * connection..][..3].copy_from_slice(&words);
+}
+
+/// Gives a connection these script readers; its readers stay.
+pub fn set_script_readers(session: &mut Session, connection: usize, script_readers: u32) {
+    session.policy[POLICY_CONNECTIONS + 3 * connection + 1] = script_readers;
 }
 
 /// Lists these hosts alone, and gives these rows alone a partner.
@@ -61,7 +73,8 @@ pub fn notes(session: &Session, record: &[u8], event: Event) {
     assert_eq!(count, 1, "{record:02x?}: {}", event.name());
 }
 
-fn seen(session: &Session, record: &[u8]) -> Seen {
+/// What is noted of the record; the session stays as it is.
+pub fn seen(session: &Session, record: &[u8]) -> Seen {
     let mut seen = Seen::new();
     feed_noting(
         &session.policy,

@@ -62,7 +62,10 @@ mod tests {
 
     #[test]
     fn records_are_counted() {
-        assert_eq!(records_in("1 0 3 0\n> 0 0 00\n2 10 0 0\nend 1 1\n"), 2);
+        assert_eq!(
+            records_in("1 0 3 0 32\n> 0 0 00\n2 10 0 0 32\nend 1 1\n"),
+            2
+        );
         assert_eq!(records_in("short\n"), 0);
     }
 }
