@@ -1,5 +1,5 @@
 -- The laws of sets that are words: bits against membership, and the empty set, all endpoints and singletons.
-use Rattle.prelude.proofs.Kit.{ℕ, _<_, _≤_, _-_, suc, _^_, zero, _%_, _/_, zero-lt-suc, div-one, add-one, arith, true, Bool, false, not, ⊎-elim, _≡_, sym, _∙_}
+use Rattle.prelude.proofs.Kit.{ℕ, _<_, _-_, suc, _^_, zero, _%_, _/_, zero-lt-suc, div-one, add-one, arith, true, Bool, false, not, ⊎-elim, _≡_, sym, _∙_}
 use Rattle.prelude.proofs.Kit.{refl, ap, subst, T, T-not, not-T, eqb, ltb, eqb→eq, ltb→lt, lt→ltb, and-i, and-r, and-l, le-of-suc-le-suc, not-suc-le-zero}
 use Prim.Native.Nat.{min, suc-le-suc}
 use native.Mathlib.Nat.{zero-div, pow-suc}
@@ -10,7 +10,7 @@ use lib.Bits.{bitAnd, and-step, and-shr}
 use lib.Count.{trailingZeros}
 use Rattle.prelude.proofs.Bits.{half-bit}
 use Rattle.prelude.proofs.Choices.{either}
-use Rattle.labels.specs.Membership.{endpoints, allBelow, isMissing, isLowestMissing, noneMissing}
+use Rattle.labels.specs.Membership.{endpoints, allBelow, isMissing, isLowestMissing}
 use Rattle.labels.specs.Sets.{holds, within, missing, unheld, empty, all, only}
 use Rattle.labels.proofs.Below.{all-at, same}
 use Rattle.labels.proofs.Membership.{Bounded, subset-holds, holds-subset, told, one-missing}

@@ -39,6 +39,24 @@ module _ (p : List ℕ) where
       and-i (isNone (fitMissingReader p n t)) (isNone (fitMissingWriter p n t)) (redirect-readers n t r .1)
       (none-first (fitMissingWriter p n t) (reachMissingWriter p (connectionWriters p n) t) w .0)
 
+  -- ---- no more than 32 is told
+
+  target-most : (f : ℕ → ℕ) (what : Arrived) → T (carriesNames p what) → ((t : ℕ) → T (isUrl p t) → f t ≤ noneMissing) → toTarget f what ≤ noneMissing
+  target-most f (DocumentResponse x) names g = omega arith
+  target-most f (ScriptResponse v) names g = omega arith
+  target-most f PictureResponse names g = omega arith
+  target-most f (Redirect t) names g = g t names
+
+  fit-reader-most : (n u : ℕ) → fitMissingReader p n u ≤ noneMissing
+  unfolding fitMissingReader
+  fit-reader-most n u = missing-most (holds (connectionReaders p n)) (holds (urlReaders p u))
+
+  pub reader-most : (e : Event) → T (named p e) → missingReader p e ≤ noneMissing
+  unfolding missingReader named redirectMissingReader
+  reader-most (Load u n) names = fit-reader-most n u
+  reader-most (Arrival u n cs what) names = target-most (redirectMissingReader p n) what (search parts) (λ t url.
+      first-most (unheld (connectionReaders p n) (urlEvent p t)) (fitMissingReader p n t) (unheld-most (holds (connectionReaders p n)) (urlEvent p t) (omega arith)) (fit-reader-most n t))
+
   -- ---- a policy that is well formed
   module _ (good : T (wellFormed p)) where
     other-half : (x y : Bool) → T (not x) → T (x || y) → T y
@@ -55,27 +73,10 @@ module _ (p : List ℕ) where
     pub event-held : (u : ℕ) → T (isUrl p u) → T (holds (urlReaders p u) (urlEvent p u))
     event-held u t = let row = full-row u t in search parts
 
-    -- ---- no more than 32 is told
-
-    fit-reader-most : (n u : ℕ) → fitMissingReader p n u ≤ noneMissing
-    unfolding fitMissingReader
-    fit-reader-most n u = missing-most (holds (connectionReaders p n)) (holds (urlReaders p u))
-
+    -- the message endpoint of a URL is an endpoint
     fit-writer-most : (n u : ℕ) → T (isUrl p u) → fitMissingWriter p n u ≤ noneMissing
     unfolding fitMissingWriter
     fit-writer-most n u t = let row = full-row u t in unheld-most (holds (connectionWriters p n)) (urlMessage p u) (ltb→lt (urlAddress p u) endpoints (search parts))
-
-    target-most : (f : ℕ → ℕ) (what : Arrived) → T (carriesNames p what) → ((t : ℕ) → T (isUrl p t) → f t ≤ noneMissing) → toTarget f what ≤ noneMissing
-    target-most f (DocumentResponse x) names g = omega arith
-    target-most f (ScriptResponse v) names g = omega arith
-    target-most f PictureResponse names g = omega arith
-    target-most f (Redirect t) names g = g t names
-
-    pub reader-most : (e : Event) → T (named p e) → missingReader p e ≤ noneMissing
-    unfolding missingReader named redirectMissingReader
-    reader-most (Load u n) names = fit-reader-most n u
-    reader-most (Arrival u n cs what) names = target-most (redirectMissingReader p n) what (search parts) (λ t url.
-        first-most (unheld (connectionReaders p n) (urlEvent p t)) (fitMissingReader p n t) (unheld-most (holds (connectionReaders p n)) (urlEvent p t) (omega arith)) (fit-reader-most n t))
 
     pub writer-most : (e : Event) → T (named p e) → missingWriter p e ≤ noneMissing
     unfolding missingWriter named redirectMissingWriter reachMissingWriter

@@ -56,7 +56,7 @@ missing-is-told p scripts s bytes out =
                     λ names. (
                       λ _. no-endpoint 7 refl,
                       λ _. (
-                        an-endpoint 8 (missingReader p event) refl (reader-most p (passes (wellFormed p) formed) event (passes (named p event) names)),
+                        an-endpoint 8 (missingReader p event) refl (reader-most p event (passes (named p event) names)),
                         λ _. (
                           an-endpoint 9 (missingWriter p event) refl (writer-most p (passes (wellFormed p) formed) event (passes (named p event) names)),
                           λ _. no-endpoint 0 refl,
