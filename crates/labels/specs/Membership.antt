@@ -1,5 +1,5 @@
--- What it means that sets of endpoints lie within one another or meet, and which endpoint is missing where they do not, said of membership
--- alone, so that it holds of every representation of a set (document 01, "Marks and sets").
+-- What it means that one set of endpoints is within another, which endpoint is missing where it is not, and what it means that two meet: said of
+-- membership alone, so that it holds of every representation of a set (document 01, "Marks and sets").
 use Prim.Native.Nat.{ℕ, zero, suc}
 use mathlib.Core.Bool.{Bool, true, false, not, _&&_, _||_, cond}
 use lib.Dec.{eqb}
