@@ -1,5 +1,6 @@
 -- The worked cases hold: they are computed.
-use Rattle.machine.specs.Cases.{with, emptyRows, policyWith, stepBytes, stepsBytes, scriptsWith, stateWith, sameNumbers, gives, rightFrom, allRight, eachGives, CasesAToJ}
+use Rattle.prelude.specs.Lists.{sameNumbers}
+use Rattle.machine.specs.Cases.{with, emptyRows, policyWith, stepBytes, stepsBytes, scriptsWith, stateWith, gives, rightFrom, allRight, eachGives, CasesAToJ}
 use Rattle.machine.specs.MoreCases.{MoreCases}
 use Rattle.machine.specs.HttpsCases.{HttpsCases}
 use Rattle.machine.specs.EntryCases.{EntryCases}

@@ -1,5 +1,6 @@
 -- The examples beside demand 3 hold: they are computed.
-use Rattle.machine.specs.Cases.{with, emptyRows, policyWith, stepBytes, stepsBytes, scriptsWith, sameNumbers}
+use Rattle.prelude.specs.Lists.{sameNumbers}
+use Rattle.machine.specs.Cases.{with, emptyRows, policyWith, stepBytes, stepsBytes, scriptsWith}
 use Rattle.machine.specs.Secrecy.{feedAll, run, shownCookies, shown, shownRecord, shownRecords, remaining, observationOf, observations}
 use Rattle.machine.specs.SecrecyExamples.{hiddenUnseen, hiddenPictureUnseen, hiddenThenShown, shownThenHidden, toldApart}
 use Rattle.machine.specs.SecrecyExamples.{saysSomething, saysSomethingOfPictures, saysSomethingOfUpgrading, SaysSomething, PicturesSaySomething, UpgradingSaysSomething}

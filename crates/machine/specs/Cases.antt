@@ -1,10 +1,11 @@
 -- How worked cases are told: records fed one after another, with all that each call gives. And document 01's small post with its cases a to j.
 use Prim.Native.Nat.{ℕ, zero, suc, _+_, _-_, _*_, _/_, _%_}
-use mathlib.Core.Bool.{Bool, true, false, _&&_}
+use mathlib.Core.Bool.{Bool, true, _&&_}
 use mathlib.Core.List.{List, [], _∷_, _++_}
 use lib.Dec.{T, eqb}
 use lib.ListN.{length, drop, replicate}
 use lib.Seq.{sets}
+use Rattle.prelude.specs.Lists.{sameNumbers}
 use Rattle.machine.specs.Policy.{urlRows, cookieLabelsAt, connectionLabelsAt, httpsHostsAt, partnersAt, cookieIndex, noAddress, noPartner}
 use Rattle.machine.specs.Session.{emptyState, presenceAt, connectionsAt, packed, documentKind, scriptKind, pictureKind}
 use Rattle.machine.specs.Scripts.{scriptBytes, tableBytes, Step, end, constant}
@@ -159,12 +160,6 @@ pageWith jar code steps sent state =
 -- the buffer given, filled with a byte that stands in no request of a case
 abbrev pub bufferOf : ℕ → List ℕ
 bufferOf room = replicate room 0xee
-
-unfoldable pub sameNumbers : List ℕ → List ℕ → Bool
-sameNumbers [] [] = true
-sameNumbers [] (y ∷ ys) = false
-sameNumbers (x ∷ xs) [] = false
-sameNumbers (x ∷ xs) (y ∷ ys) = eqb x y && sameNumbers xs ys
 
 -- number, counts, missing endpoint, whole state and whole buffer are as the case says
 unfoldable pub gives : ℕ → Call → Fed → Bool

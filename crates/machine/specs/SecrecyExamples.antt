@@ -5,13 +5,14 @@ use mathlib.Core.Bool.{Bool, not, _&&_}
 use mathlib.Core.List.{List, [], _∷_, _++_, map}
 use lib.Dec.{T, eqb}
 use lib.ListN.{length, replicate}
+use Rattle.prelude.specs.Lists.{sameNumbers}
 use Rattle.records.specs.declared.Record.{Record}
 use Rattle.records.specs.Codec.{bytesOf}
 use Rattle.machine.specs.Policy.{cookieIndex}
 use Rattle.machine.specs.Session.{free, documentKind, packed, cookieValue, connectionWord, Cookie}
 use Rattle.machine.specs.Scripts.{end, constant, writeCookie, sendRequest, sendPicture}
 use Rattle.machine.specs.Machine.{Arrived, DocumentResponse, ScriptResponse, PictureResponse, Redirect, Event, Load, Arrival}
-use Rattle.machine.specs.Cases.{url, cookieLabel, connection, alwaysHttps, partner, policyWith, scriptsWith, scriptOf, sameNumbers}
+use Rattle.machine.specs.Cases.{url, cookieLabel, connection, alwaysHttps, partner, policyWith, scriptsWith, scriptOf}
 use Rattle.machine.specs.Secrecy.{Item, Trace, run, remaining, Observation, observations}
 
 -- ---- what is compared, as lists of numbers

@@ -1,6 +1,6 @@
 -- Laws of lists that the kit does not have.
-use Rattle.prelude.proofs.Kit.{ℕ, _<_, _+_, suc, zero, add-zero, le-of-suc-le-suc, not-suc-le-zero, arith, List, _∷_, [], _++_, map, _≡_, sym}
-use Rattle.prelude.proofs.Kit.{_∙_, ap, length, getD, set, sets}
+use Rattle.prelude.proofs.Kit.{ℕ, _<_, _+_, _-_, suc, zero, add-zero, le-of-suc-le-suc, not-suc-le-zero, arith, List, _∷_, [], _++_, map, _≡_, sym}
+use Rattle.prelude.proofs.Kit.{_∙_, ap, length, take, drop, getD, set, sets, take-all, length-drop}
 use Rattle.prelude.specs.Lists.{numbers}
 
 -- stores of a joined list are the stores of its parts, one after the other
@@ -14,3 +14,7 @@ unfolding numbers
 map-at f zero from k l = absurd (not-suc-le-zero l)
 map-at f (suc n) from zero l = ap f (sym (add-zero from))
 map-at f (suc n) from (suc k) l = map-at f n (suc from) k (le-of-suc-le-suc l) ∙ ap f (omega arith)
+
+-- the rest of a list, as code lends it
+pub rest-is : (bytes : List ℕ) (from : ℕ) → take (length bytes - from) (drop from bytes) ≡ drop from bytes
+rest-is bytes from = take-all (length bytes - from) (drop from bytes) (omega (arith, length-drop from bytes))

@@ -1,6 +1,6 @@
 -- The run of records that bytes are, one by one: the first of them, and the run of what follows it.
 use Rattle.prelude.proofs.Kit.{ℕ, _≤_, _<_, _+_, _-_, suc, zero, arith, List, _∷_, [], _≡_, sym, _∙_, refl, ap, ne-eqb, eqb, length, take, drop}
-use Rattle.prelude.proofs.Kit.{length-append, length-drop, take-all, ℕ-discrete, true, false, Bool, _&&_, _||_, cond, true≢false, subst, T, ltb, ltb→lt, and-l, and-r}
+use Rattle.prelude.proofs.Kit.{length-append, length-drop, ℕ-discrete, true, false, Bool, _&&_, _||_, cond, true≢false, subst, T, ltb, ltb→lt, and-l, and-r}
 use borrow.Author.Tests.{eqb-true}
 use lib.ListN.{take-append-drop}
 use Rattle.prelude.specs.Refusals.{accepted}
@@ -15,10 +15,6 @@ use Rattle.records.specs.Places.{cookieWidths}
 use Rattle.records.proofs.Values.{same-keys}
 use Rattle.records.proofs.Decoding.{known, right-length, decoded-accepted}
 use Rattle.records.proofs.Writing.{size-split, front-end}
-
--- the bytes from a place on, as a caller lends them
-pub rest-is : (bytes : List ℕ) (from : ℕ) → take (length bytes - from) (drop from bytes) ≡ drop from bytes
-rest-is bytes from = take-all (length bytes - from) (drop from bytes) (omega (arith, length-drop from bytes))
 
 -- ---- how long a request is
 

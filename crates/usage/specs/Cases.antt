@@ -5,8 +5,8 @@ use mathlib.Core.List.{List, [], _∷_, _++_}
 use lib.Dec.{T}
 use lib.ListN.{replicate}
 use Rattle.prelude.specs.Choice.{every}
+use Rattle.prelude.specs.Lists.{sameNumbers}
 use Rattle.records.specs.Layout.{sum}
-use Rattle.machine.specs.Cases.{sameNumbers}
 use Rattle.machine.specs.SecrecyExamples.{sentWithHidden, sentWithHiddenPicture}
 use Rattle.usage.specs.Tally.{listBad, tallied}
 use Rattle.usage.specs.Lines.{Line, lines}

@@ -4,7 +4,7 @@ use Rattle.prelude.proofs.Kit.{drop, set, subst, not-false, not-true}
 use Rattle.records.specs.declared.Direction.the-variants.{Request}
 use Rattle.records.specs.declared.First.{First}
 use Rattle.records.specs.Codec.{decodedFirst, readRun}
-use Rattle.records.proofs.ReadRuns.{rest-is}
+use Rattle.prelude.proofs.Lists.{rest-is}
 use Rattle.machine.specs.Policy.{urlRows}
 use Rattle.usage.specs.Tally.{inRange, listBytes}
 use Rattle.usage.proofs.Carried.{carried, ones-carried}

@@ -1,7 +1,7 @@
 -- `lines::write_request_lines` meets its contract: the lines that are left to write make the whole.
 use Rattle.prelude.proofs.Kit.{ℕ, _≤_, _+_, _-_, arith, List, _≡_, _∙_, ap, needs, now, length, drop, drop-of-length-le}
 use Rattle.records.specs.declared.First.{First}
-use Rattle.records.proofs.ReadRuns.{rest-is}
+use Rattle.prelude.proofs.Lists.{rest-is}
 use Rattle.transcript.specs.Lines.{sentLines}
 use Rattle.transcript.proofs.Requests.{firstRequest, lines-end, lines-none}
 use Rattle.transcript.proofs.Printing.{Printing, printing-begins, request-bytes, request-room, printing-goes-on, printing-ends}
