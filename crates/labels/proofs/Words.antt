@@ -1,5 +1,6 @@
--- The laws of sets that are words: bits against membership, and the empty set, all endpoints and singletons.
-use Rattle.prelude.proofs.Kit.{ℕ, _<_, _-_, suc, _^_, zero, _%_, _/_, zero-lt-suc, div-one, add-one, arith, true, Bool, false, not, ⊎-elim, _≡_, sym, _∙_}
+-- The laws of sets that are words: bits against membership, the word of a membership, and the empty set, all endpoints and singletons.
+use Rattle.prelude.proofs.Kit.{ℕ, _<_, _+_, _-_, _*_, suc, _^_, zero, _%_, _/_, zero-lt-suc, div-one, add-zero, zero-add, add-one, arith}
+use Rattle.prelude.proofs.Kit.{true, Bool, false, not, cond, ⊎-elim, _≡_, sym, _∙_, lt-ltb}
 use Rattle.prelude.proofs.Kit.{refl, ap, subst, T, T-not, not-T, eqb, ltb, eqb→eq, ltb→lt, lt→ltb, and-i, and-r, and-l, le-of-suc-le-suc, not-suc-le-zero}
 use Prim.Native.Nat.{min, suc-le-suc}
 use native.Mathlib.Nat.{zero-div, pow-suc}
@@ -9,9 +10,9 @@ use lib.Pow.{shr-lt}
 use lib.Bits.{bitAnd, and-step, and-shr}
 use lib.Count.{trailingZeros}
 use Rattle.prelude.proofs.Bits.{half-bit}
-use Rattle.prelude.proofs.Choices.{either}
-use Rattle.labels.specs.Membership.{endpoints, allBelow, isMissing, isLowestMissing}
-use Rattle.labels.specs.Sets.{holds, within, missing, unheld, empty, all, only}
+use Rattle.prelude.proofs.Choices.{either, is-true, is-false}
+use Rattle.labels.specs.Membership.{Membership, endpoints, allBelow, isMissing, isLowestMissing}
+use Rattle.labels.specs.Sets.{holds, within, missing, unheld, empty, all, only, wordFrom, wordOf}
 use Rattle.labels.proofs.Below.{all-at, same}
 use Rattle.labels.proofs.Membership.{Bounded, subset-holds, holds-subset, told, one-missing}
 
@@ -125,7 +126,7 @@ within-none s l =
         omega (arith, rest, low)
 
 -- a singleton holds its endpoint and no other: one computed test of all 32 by 32
-beq-eq : (x y : Bool) → T (Bool·beq x y) → x ≡ y
+pub beq-eq : (x y : Bool) → T (Bool·beq x y) → x ≡ y
 beq-eq true true t = refl
 beq-eq true false t = absurd t
 beq-eq false true t = absurd t
@@ -147,3 +148,54 @@ only-holds a b l k =
 -- so what is missing of a singleton is its endpoint, just where a set does not hold it
 pub only-missing : (a s : ℕ) → a < endpoints → missing (only a) s ≡ unheld s a
 only-missing a s l = one-missing (holds (only a)) a l (λ b k. only-holds a b l k) (holds s)
+
+-- ---- the word of a set that is given by membership
+
+module _ (s : Membership) where
+  abbrev bitAt : ℕ → ℕ
+  bitAt a = cond (s a) 1 0
+
+  low : (b : Bool) (w : ℕ) → (cond b 1 0 + 2 * w) % 2 ≡ cond b 1 0
+  low true w = omega arith
+  low false w = omega arith
+
+  high : (b : Bool) (w : ℕ) → (cond b 1 0 + 2 * w) / 2 ≡ w
+  high true w = omega arith
+  high false w = omega arith
+
+  bits-are : (n a k : ℕ) → k < n → wordFrom n a s / 2 ^ k % 2 ≡ bitAt (a + k)
+  unfolding wordFrom
+  bits-are zero a k l = absurd (not-suc-le-zero l)
+  bits-are (suc n) a zero l = rw (div-one, add-zero) (low (s a) (wordFrom n (suc a) s))
+  bits-are (suc n) a (suc k) l =
+      sym (half-bit (bitAt a + 2 * wordFrom n (suc a) s) k) ∙ ap (λ (x : ℕ). x / 2 ^ k % 2) (high (s a) (wordFrom n (suc a) s))
+      ∙ bits-are n (suc a) k (le-of-suc-le-suc l) ∙ ap bitAt (omega arith)
+
+  bits-make : (n a w : ℕ) → w < 2 ^ n → ((k : ℕ) → k < n → w / 2 ^ k % 2 ≡ bitAt (a + k)) → w ≡ wordFrom n a s
+  unfolding wordFrom
+  bits-make zero a w l f = lt-one l
+  bits-make (suc n) a w l f =
+      let rest = bits-make n (suc a) (w / 2) (shr-lt n 1 (rw add-one l)) (λ k h. half-bit w k ∙ f (suc k) (suc-le-suc h) ∙ ap bitAt (omega arith)) in
+      let lowest : w % 2 ≡ bitAt a = rw (div-one, add-zero) at (f zero (zero-lt-suc n)) in
+      omega (arith, rest, lowest)
+
+  -- it holds the endpoints that are in the set
+  pub word-holds : (a : ℕ) → a < endpoints → holds (wordOf s) a ≡ s a
+  unfolding holds wordOf
+  word-holds a l = rw (lt-ltb a endpoints l, bits-are endpoints 0 a l, zero-add) (go (s a))
+    where
+      go : (b : Bool) → eqb (cond b 1 0) 1 ≡ b
+      go true = refl
+      go false = refl
+
+  -- and any word that holds just these is it
+  pub word-is : (w : ℕ) → w < 2 ^ 32 → ((a : ℕ) → a < endpoints → holds w a ≡ s a) → w ≡ wordOf s
+  unfolding wordOf
+  word-is w l f =
+      bits-make endpoints 0 w l (λ a h. ⊎-elim
+      (λ t. bit-of w a t ∙ bit-is a true (sym (f a h) ∙ is-true (holds w a) t))
+      (λ t. unheld-bit w a h t ∙ bit-is a false (sym (f a h) ∙ is-false (holds w a) t))
+      (either (holds w a)))
+    where
+      bit-is : (a : ℕ) (b : Bool) → s a ≡ b → cond b 1 0 ≡ bitAt (0 + a)
+      bit-is a b e = rw (zero-add, e)

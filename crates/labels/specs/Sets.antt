@@ -1,8 +1,8 @@
 -- A set of endpoints as a word of 32 bits (document 01, "Marks and sets").
-use Prim.Native.Nat.{ℕ, _-_, _/_, _%_, _^_}
+use Prim.Native.Nat.{ℕ, zero, suc, _+_, _-_, _*_, _/_, _%_, _^_}
 use mathlib.Core.Bool.{Bool, _&&_, cond}
 use lib.Dec.{ltb, eqb}
-use Rattle.labels.specs.Membership.{endpoints, subset, lowestMissing, missingOne, share}
+use Rattle.labels.specs.Membership.{Membership, endpoints, subset, lowestMissing, missingOne, share}
 
 -- Endpoint a is in the set whose bit a is 1. A number above 31 is no endpoint, and is in no set.
 unfoldable pub holds : ℕ → ℕ → Bool
@@ -33,3 +33,11 @@ all = 2 ^ 32 - 1
 
 unfoldable pub only : ℕ → ℕ
 only a = cond (ltb a endpoints) (2 ^ a) empty
+
+-- The word of a set that is given by membership: of so many endpoints, from one on, the first is the lowest bit, and the others follow above it.
+unfoldable pub wordFrom : ℕ → ℕ → Membership → ℕ
+wordFrom zero a s = 0
+wordFrom (suc n) a s = cond (s a) 1 0 + 2 * wordFrom n (suc a) s
+
+unfoldable pub wordOf : Membership → ℕ
+wordOf s = wordFrom endpoints 0 s

@@ -1,6 +1,8 @@
-// The message endpoint and the event endpoint of each address, as sets (document 01, "Marks and sets").
+// The endpoints of an address, as sets, and those of a host, as a word (document 01, "Marks and sets").
 ghost use mathlib.Core.Path.{_≡_};
-ghost use Rattle.labels.specs.Addresses.{messageSet, eventSet};
+ghost use Prim.Native.Nat.{ℕ};
+ghost use Rattle.labels.specs.Sets.{holds};
+ghost use Rattle.labels.specs.Addresses.{messageSet, eventSet, hostEndpoints};
 use super::EndpointSet;
 use super::LAST_ENDPOINT;
 
@@ -22,4 +24,18 @@ pub fn event_set(address: u32) -> EndpointSet
         return EndpointSet::EMPTY;
     }
     EndpointSet::only(address % HOSTS)
+}
+
+// The endpoints of a host as a word: https there, and http unless https alone is asked for; 0 where the host is above 15.
+pub fn host_endpoints(host: u32, https_alone: bool) -> u32
+    ensures { λ r. ⌜ ((endpoint : ℕ) → holds r endpoint ≡ hostEndpoints host «https_alone» endpoint) ⌝ }
+{
+    if HOSTS <= host {
+        return 0;
+    }
+    let https = 1 << (HOSTS + host);
+    if https_alone {
+        return https;
+    }
+    https + (1 << host)
 }
