@@ -19,7 +19,7 @@ pub const HOST_KEYS: usize = 8;
 
 pub const CONNECTIONS: usize = 32;
 
-const COOKIE_LABELS_AT: usize = 3 * URL_ROWS;
+pub const COOKIE_LABELS_AT: usize = 3 * URL_ROWS;
 
 const CONNECTION_LABELS_AT: usize = COOKIE_LABELS_AT + 2 * (HOSTS * HOST_KEYS);
 

@@ -34,7 +34,7 @@ module _ (n : ℕ) where
   pub decimal-longer : 10 ≤ n → n < 2 ^ 32 → length (decimal n) ≡ length (decimal (n / 10)) + 1
   decimal-longer h l = ap length (decimal-more h l) ∙ length-append (decimal (n / 10)) (digit (n % 10) ∷ [])
 
-  decimal-ten : length (decimal n) ≤ 10
+  pub decimal-ten : length (decimal n) ≤ 10
   unfolding decimal
   decimal-ten = within 10 n
 

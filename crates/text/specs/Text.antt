@@ -1,11 +1,18 @@
--- Text as bytes: numbers in decimal and hexadecimal, and words on a line.
+-- Text as bytes: quoted text, numbers in decimal and hexadecimal, and words on a line.
 use Prim.Native.Nat.{ℕ, zero, suc, _+_, _-_, _/_, _%_, _≤_}
+use Prim.Native.Char.{code}
+use Prim.Native.String.{String, [] as noMore, _∷_ as _then_}
 use mathlib.Core.Path.{_≡_}
 use mathlib.Core.Bool.{cond}
 use mathlib.Core.List.{List, [], _∷_, _++_}
 use lib.Dec.{ltb}
 use lib.ListN.{length, drop}
 use lib.Seq.{sets}
+
+-- the bytes of a quoted text, which has only characters of ASCII
+abbrev pub ascii : String → List ℕ
+ascii noMore = []
+ascii (c then s) = code c ∷ ascii s
 
 abbrev pub space : ℕ
 space = 0x20
@@ -33,6 +40,10 @@ hexDigit n = cond (ltb n 10) (digit n) (0x61 + (n - 10))
 -- a byte as two hexadecimal digits
 abbrev pub hex : ℕ → List ℕ
 hex n = hexDigit (n / 16) ∷ hexDigit (n % 16) ∷ []
+
+-- a word of 32 bits as eight hexadecimal digits
+abbrev pub hexWord : ℕ → List ℕ
+hexWord n = hex (n / 0x1000000 % 256) ++ (hex (n / 0x10000 % 256) ++ (hex (n / 0x100 % 256) ++ hex (n % 256)))
 
 -- words on a line: a space after each but the last, and a newline after that
 abbrev pub line : List (List ℕ) → List ℕ

@@ -3,7 +3,7 @@ ghost use Prim.Native.Nat.{_+_, _<_, _≤_};
 ghost use mathlib.Core.Path.{_≡_};
 ghost use mathlib.Core.List.{[], _∷_, _++_};
 ghost use lib.ListN.{length};
-ghost use Rattle.text.specs.Text.{decimal, hexDigit, hex, line, Wrote};
+ghost use Rattle.text.specs.Text.{decimal, hexDigit, hex, hexWord, line, Wrote};
 
 pub fn write_bytes(text: &mut [u8], at: usize, bytes: &[u8]) -> usize
     requires { ⌜ at + length (now bytes) ≤ length (now text) ⌝ }
@@ -15,7 +15,7 @@ pub fn write_bytes(text: &mut [u8], at: usize, bytes: &[u8]) -> usize
     at + bytes.len()
 }
 
-fn write_decimal(text: &mut [u8], at: usize, n: u32) -> usize
+pub fn write_decimal(text: &mut [u8], at: usize, n: u32) -> usize
     requires { ⌜ at + length (decimal n) ≤ length (now text) ⌝ }
     ensures { λ r. ⌜ Wrote (now (text .entry)) at (decimal n) (now (text .exit)) r ⌝ }
 {
@@ -54,13 +54,33 @@ fn hex_digit(n: u8) -> u8
     if n < 10 { b'0' + n } else { b'a' + (n - 10) }
 }
 
+// A byte as two hexadecimal digits.
+fn write_hex_byte(text: &mut [u8], at: usize, n: u8) -> usize
+    requires { ⌜ at + 2 ≤ length (now text) ⌝ }
+    ensures { λ r. ⌜ Wrote (now (text .entry)) at (hex n) (now (text .exit)) r ⌝ }
+{
+    text[at] = hex_digit(n / 16);
+    text[at + 1] = hex_digit(n % 16);
+    at + 2
+}
+
 // Two hexadecimal digits and the byte that ends them.
 pub fn write_hex(text: &mut [u8], at: usize, n: u8, end: u8) -> usize
     requires { ⌜ at + 3 ≤ length (now text) ⌝ }
     ensures { λ r. ⌜ Wrote (now (text .entry)) at (hex n ++ (end ∷ [])) (now (text .exit)) r ⌝ }
 {
-    text[at] = hex_digit(n / 16);
-    text[at + 1] = hex_digit(n % 16);
-    text[at + 2] = end;
-    at + 3
+    let last = write_hex_byte(text, at, n);
+    text[last] = end;
+    last + 1
+}
+
+// A word as eight hexadecimal digits.
+pub fn write_hex_word(text: &mut [u8], at: usize, n: u32) -> usize
+    requires { ⌜ at + 8 ≤ length (now text) ⌝ }
+    ensures { λ r. ⌜ Wrote (now (text .entry)) at (hexWord n) (now (text .exit)) r ⌝ }
+{
+    let second = write_hex_byte(text, at, (n / 0x100_0000 % 256) as u8);
+    let third = write_hex_byte(text, second, (n / 0x1_0000 % 256) as u8);
+    let fourth = write_hex_byte(text, third, (n / 0x100 % 256) as u8);
+    write_hex_byte(text, fourth, (n % 256) as u8)
 }

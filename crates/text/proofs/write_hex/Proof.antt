@@ -1,20 +1,14 @@
--- `write_hex` meets its contract.
-use Rattle.prelude.proofs.Kit.{add-one, arith, refl, needs, length-set}
-use native.Mathlib.Numerals.{add-two}
+-- `write_hex` meets its contract: two digits, and one byte more.
+use Rattle.prelude.proofs.Kit.{needs}
+use Rattle.text.proofs.Writing.{wrote-byte}
 use Rattle.text.proofs.write_hex.Statement.{statement}
 use Rattle.text.proofs.write_hex.Tie as tie
 
-slice-write-text-2 : tie.Need-slice-write-text-2
-slice-write-text-2 c = simp length-set (omega arith)
-
-slice-write-text-3 : tie.Need-slice-write-text-3
-slice-write-text-3 c = simp length-set (omega arith)
+slice-write-text : tie.Need-slice-write-text
+slice-write-text c = search needs
 
 returns : tie.Need-returns
-returns c =
-    let at = c .before .before .before .args .at in
-    rw (← c .hex-digit2 .ensures, ← c .before .hex-digit .ensures, add-one at, add-two at) (record { place = refl; within = search needs; written = refl })
+returns c = wrote-byte (c .before .before .write-hex-byte .ensures) _ (slice-write-text c)
 
 pub write-hex-spec : {M : Type 1} → statement M
-write-hex-spec =
-    tie.close (tie.spec (λ c κs. search needs) (λ c. search needs) (λ c κs. search needs) (λ c. search needs) slice-write-text-2 (λ c. search needs) slice-write-text-3 (λ c. search needs) (λ c. search needs) returns)
+write-hex-spec = tie.close (tie.spec (λ c κs. search needs) slice-write-text (λ c. search needs) (λ c. search needs) returns)
