@@ -1,0 +1,5 @@
+pub mod Parts
+pub mod SetCookie
+pub mod Import
+pub mod Guarantees
+pub mod Cases
