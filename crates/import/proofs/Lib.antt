@@ -1,0 +1,3 @@
+pub mod TakingOff
+pub mod Splitting
+pub mod Room
