@@ -1,5 +1,5 @@
-//! Tells cargo where libmonitor.a is, and libusage.a where the feature `usage` is on: in the folder that `MONITOR_LIB_DIR` names, or where
-//! `rt staticlib` leaves them.
+//! Tells cargo where libmonitor.a is, and where a feature is on the library of its name, libusage.a or libcookie.a: in the folder that
+//! `MONITOR_LIB_DIR` names, or where `rt staticlib` leaves them.
 
 use std::env;
 use std::path::{Path, PathBuf};
@@ -9,8 +9,13 @@ fn main() {
     let folder = env::var_os("MONITOR_LIB_DIR").map_or_else(built_here, PathBuf::from);
     println!("cargo::rustc-link-search=native={}", folder.display());
     link("monitor", &folder);
-    if env::var_os("CARGO_FEATURE_USAGE").is_some() {
-        link("usage", &folder);
+    for (feature, name) in [
+        ("CARGO_FEATURE_USAGE", "usage"),
+        ("CARGO_FEATURE_COOKIE", "cookie"),
+    ] {
+        if env::var_os(feature).is_some() {
+            link(name, &folder);
+        }
     }
 }
 

@@ -91,10 +91,17 @@
 //! # The tally of requests
 //!
 //! With the feature `usage`, the module `usage` counts the requests that were written, by URL. It needs `libusage.a` beside `libmonitor.a`.
+//!
+//! # Set-Cookie lines
+//!
+//! With the feature `cookie`, the module `cookie` reads a Set-Cookie line: which cookie it sets, to which value, and who may read it, as the word of
+//! a policy. It needs `libcookie.a` beside `libmonitor.a`.
 
 #![no_std]
 #![warn(missing_docs)]
 
+#[cfg(feature = "cookie")]
+pub mod cookie;
 mod endpoint;
 #[cfg(feature = "usage")]
 pub mod usage;
