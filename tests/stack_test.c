@@ -1,6 +1,7 @@
-/* Links libmonitor.a and libusage.a: how much stack one call takes. The call runs on a stack of its own that was painted before, so that what
- * it wrote is seen afterwards; the same call of a function that does nothing is taken off. Printed for the calls that could take most: the
- * largest output, the longest script, everything that is refused, lists that are counted; and bounded, so that it is seen where it grows. */
+/* Links libmonitor.a, libusage.a and libcookie.a: how much stack one call takes. The call runs on a stack of its own that was painted before, so
+ * that what it wrote is seen afterwards; the same call of a function that does nothing is taken off. Printed for the calls that could take most: the
+ * largest output, the longest script, everything that is refused, lists that are counted, lines that are read; and bounded, so that it is seen where
+ * it grows. */
 #define _XOPEN_SOURCE 700
 #include <stdbool.h>
 #include <stdio.h>
@@ -8,16 +9,18 @@
 #include <string.h>
 #include <ucontext.h>
 
+#include "cookie.h"
 #include "monitor.h"
 #include "usage.h"
 
 enum { STACK_BYTES = 64 * 1024, PAINT = 0x5a, MOST = 1024, MOST_COUNTING = 2 * 1024, SENDS = 0, REGISTERS = 1, WRITES = 2 };
-enum { STEPS = 32, STEP_BYTES = 4, KEYS = 8 };
+enum { STEPS = 32, STEP_BYTES = 4, KEYS = 8, LINE_BYTES = 4096 };
 /* in a policy, the partners of the URLs and before them the word of https hosts */
 enum { URLS = 64, PARTNERS = MONITOR_POLICY_WORDS - URLS, HTTPS_HOSTS = PARTNERS - 1 };
 
 typedef void calls(void);
 typedef struct usage_tally counts(const uint8_t *, size_t);
+typedef struct cookie_imported imports(uint32_t, const uint8_t *, size_t, const uint8_t *, size_t);
 typedef struct monitor_answer feeds(const uint32_t *, size_t, const uint8_t *, size_t, uint32_t *, size_t, const uint8_t *, size_t, uint8_t *, size_t);
 
 static uint8_t stack[STACK_BYTES];
@@ -25,6 +28,11 @@ static ucontext_t here, there;
 static feeds *feeder;
 static counts *counter;
 static struct usage_tally tally;
+static imports *importer;
+static struct cookie_imported imported;
+static const uint8_t names[COOKIE_NAMES_BYTES] = "sid";
+static uint8_t line[LINE_BYTES];
+static uint32_t host;
 static uint32_t policy[MONITOR_POLICY_WORDS], state[MONITOR_STATE_WORDS];
 static uint8_t scripts[MONITOR_SCRIPT_BYTES], out[MONITOR_OUT_BYTES], record[MONITOR_LONGEST_RECORD];
 static size_t state_words, record_bytes, out_bytes;
@@ -43,9 +51,20 @@ static struct usage_tally counts_nothing(const uint8_t *r, size_t rn)
     return (struct usage_tally){.number = 0};
 }
 
+static struct cookie_imported imports_nothing(uint32_t h, const uint8_t *n, size_t nn, const uint8_t *t, size_t tn)
+{
+    (void)h, (void)n, (void)nn, (void)t, (void)tn;
+    return (struct cookie_imported){.number = 0};
+}
+
 static void count(void)
 {
     tally = counter(record, record_bytes);
+}
+
+static void import(void)
+{
+    imported = importer(host, names, sizeof names, line, sizeof line);
 }
 
 static void feed(void)
@@ -152,7 +171,26 @@ static void measure_count(const char *name, uint32_t number, uint32_t records)
     }
 }
 
-int main(void)
+/* A line of a front and then the same piece over and over, up to the line's end. */
+static void measure_import(const char *name, const char *front, const char *piece, uint32_t number)
+{
+    const size_t start = strlen(front), step = strlen(piece);
+    memcpy(line, front, start);
+    for (size_t at = start; at < sizeof line; at++) {
+        line[at] = (uint8_t)piece[(at - start) % step];
+    }
+    importer = imports_nothing;
+    size_t around = depth(import);
+    importer = cookie_import;
+    import(); /* as above */
+    bound(name, depth(import) - around, MOST);
+    if (imported.number != number) {
+        fprintf(stderr, "stack: %s: answered %u\n", name, imported.number);
+        exit(EXIT_FAILURE);
+    }
+}
+
+static void feeds_and_counts(void)
 {
     respond(SENDS);
     measure("the largest output: 32 requests of 37 bytes", MONITOR_ACCEPTED, STEPS * MONITOR_LONGEST_REQUEST, STEPS);
@@ -181,5 +219,22 @@ int main(void)
     measure_count("a list that is counted", USAGE_ACCEPTED, 2);
     record_bytes = 8;
     measure_count("a list that is refused", USAGE_LIST_BAD, 0);
+}
+
+static void lines(void)
+{
+    measure_import("a line of many attributes", "sid=7;", "Secure;", COOKIE_ACCEPTED);
+    measure_import("a line of one long attribute", "sid=7;", "x", COOKIE_ACCEPTED);
+    measure_import("a line whose value is no number", "sid=", "7", COOKIE_NO_NUMBER);
+    measure_import("a line whose name has no key", "id=", "7", COOKIE_NO_KEY);
+    measure_import("a line without a name", "", " ", COOKIE_NO_NAME);
+    host = UINT32_MAX;
+    measure_import("a line of a host that there is not", "", " ", COOKIE_HOST_UNKNOWN);
+}
+
+int main(void)
+{
+    feeds_and_counts();
+    lines();
     return EXIT_SUCCESS;
 }

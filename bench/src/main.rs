@@ -1,10 +1,12 @@
-//! Measures the proved libraries beside plain Rust: `feed_fast`, the same function tuned by hand, and `tally_fast`, the same count in one pass.
+//! Measures the proved libraries beside plain Rust: `feed_fast`, the same function tuned by hand, `tally_fast`, the same count in one pass, and
+//! `import_fast`, the same reading of a Set-Cookie line.
 //!
 //! Prints what it measured. With `--write FOLDER` it also puts the tables into FOLDER/PERFORMANCE.md, between the two lines that mark their
 //! place, and writes the charts beside it.
 
 mod chart;
 mod growth;
+mod import;
 mod report;
 mod tally;
 mod timing;

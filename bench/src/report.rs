@@ -5,6 +5,7 @@ use std::fs;
 use std::process::Command;
 
 use crate::growth::{self, Growth};
+use crate::import;
 use crate::tally;
 use crate::timing::{measure as time, Times};
 use crate::workload::{self, Session, Workload};
@@ -25,6 +26,8 @@ pub struct Measured {
     pub checks: Vec<Checks>,
     pub growth: Vec<Growth>,
     pub lists: Vec<tally::Row>,
+    pub lines: Vec<import::Row>,
+    pub line_growth: Vec<Growth>,
 }
 
 /// What a call costs that is refused after number 2, after number 4, and the mean of the session.
@@ -49,6 +52,8 @@ pub fn measure(rounds: usize) -> Measured {
             .collect(),
         growth: growth::all(rounds),
         lists: tally::all(rounds),
+        lines: import::all(rounds),
+        line_growth: import::growth(rounds),
     }
 }
 
@@ -84,9 +89,11 @@ pub fn tables(measured: &Measured) -> String {
             measured
                 .growth
                 .iter()
-                .try_for_each(|growth| growth_table(&mut text, growth))
+                .try_for_each(|growth| growth_table(&mut text, growth, ["feed", "feed_fast"]))
         })
-        .and_then(|()| list_table(&mut text, &measured.lists));
+        .and_then(|()| list_table(&mut text, &measured.lists))
+        .and_then(|()| line_table(&mut text, &measured.lines))
+        .and_then(|()| line_growth_tables(&mut text, &measured.line_growth));
     written.expect("a string can be written to");
     text
 }
@@ -168,7 +175,12 @@ fn check_table(text: &mut String, rows: &[Checks]) -> std::fmt::Result {
     writeln!(text)
 }
 
-fn growth_table(text: &mut String, growth: &Growth) -> std::fmt::Result {
+/// With the names of what is measured: the proved one's, and that of plain Rust.
+fn growth_table(
+    text: &mut String,
+    growth: &Growth,
+    [proved, by_hand]: [&str; 2],
+) -> std::fmt::Result {
     let cells = |cell: &dyn Fn(&(usize, Times)) -> String| {
         growth
             .points
@@ -185,12 +197,12 @@ fn growth_table(text: &mut String, growth: &Growth) -> std::fmt::Result {
     writeln!(text, "|---|{}", "--:|".repeat(growth.points.len()))?;
     writeln!(
         text,
-        "| `feed` |{}",
+        "| `{proved}` |{}",
         cells(&|(_, times)| format!("{:.0}", times.proved))
     )?;
     writeln!(
         text,
-        "| `feed_fast` |{}\n",
+        "| `{by_hand}` |{}\n",
         cells(&|(_, times)| format!("{:.0}", times.by_hand))
     )
 }
@@ -214,4 +226,31 @@ fn list_table(text: &mut String, rows: &[tally::Row]) -> std::fmt::Result {
         )?;
     }
     writeln!(text)
+}
+
+fn line_table(text: &mut String, rows: &[import::Row]) -> std::fmt::Result {
+    writeln!(text, "Nanoseconds for one Set-Cookie line.\n")?;
+    writeln!(
+        text,
+        "| Line | bytes | `import` | `import_fast` | ratio |\n|---|--:|--:|--:|--:|"
+    )?;
+    for row in rows {
+        let Times { proved, by_hand } = row.times;
+        let ratio = row.times.ratio();
+        writeln!(
+            text,
+            "| {} | {:.0} | {proved:.1} | {by_hand:.1} | {ratio:.2} |",
+            row.name, row.bytes
+        )?;
+    }
+    writeln!(text)
+}
+
+fn line_growth_tables(text: &mut String, all: &[Growth]) -> std::fmt::Result {
+    writeln!(
+        text,
+        "The same by the bytes of the line, which has a good pair and then what is named.\n"
+    )?;
+    all.iter()
+        .try_for_each(|growth| growth_table(text, growth, ["import", "import_fast"]))
 }

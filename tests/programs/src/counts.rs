@@ -6,7 +6,8 @@ use crate::Kind;
 pub type Column = (&'static str, usize);
 
 /// What is counted in every test; a test may have more.
-const COLUMNS: [Column; 3] = [("inputs", 10), ("bytes", 14), ("records", 12)];
+const COLUMNS: [Column; 2] = [("inputs", 10), ("bytes", 14)];
+const RECORDS_WIDTH: usize = 12;
 const INPUTS: usize = 0;
 const RECORDS: usize = 2;
 
@@ -16,8 +17,9 @@ pub struct Counts<K> {
 }
 
 impl<K: Kind> Counts<K> {
-    pub fn new(more: &[Column]) -> Counts<K> {
-        let columns = [&COLUMNS, more].concat();
+    /// What the test calls the records of an input, and what it counts beside.
+    pub fn new(records: &'static str, more: &[Column]) -> Counts<K> {
+        let columns = [&COLUMNS[..], &[(records, RECORDS_WIDTH)], more].concat();
         let none = vec![0; columns.len()];
         Counts {
             rows: K::ALL.iter().map(|&kind| (kind, none.clone())).collect(),
@@ -25,9 +27,9 @@ impl<K: Kind> Counts<K> {
         }
     }
 
-    /// Counts an input, the records in it, and what else the test counts.
-    pub fn add(&mut self, kind: K, input: &[u8], records: u64, more: &[u64]) {
-        let one = [&[1, input.len() as u64, records], more].concat();
+    /// Counts an input, its bytes, the records in it, and what else the test counts.
+    pub fn add(&mut self, kind: K, bytes: usize, records: u64, more: &[u64]) {
+        let one = [&[1, bytes as u64, records], more].concat();
         let row = self.rows.iter_mut().find(|(of, _)| *of == kind);
         let (_, row) = row.expect("every kind has its row");
         add(row, &one);
@@ -42,8 +44,9 @@ impl<K: Kind> Counts<K> {
     pub fn progress(&self, seconds: f64) -> String {
         let total = self.total();
         let (inputs, records) = (total[INPUTS], total[RECORDS]);
+        let (name, _) = self.columns[RECORDS];
         let rate = inputs as f64 / seconds;
-        format!("{seconds:.0} s: {inputs} inputs, {records} records, {rate:.0} inputs per second")
+        format!("{seconds:.0} s: {inputs} inputs, {records} {name}, {rate:.0} inputs per second")
     }
 
     pub fn print(&self) {
@@ -81,21 +84,21 @@ mod tests {
 
     #[test]
     fn inputs_are_counted_by_kind() {
-        let mut counts = Counts::new(&[("more", 5)]);
-        counts.add('b', &[1, 2, 3], 4, &[5]);
-        counts.add('b', &[1], 0, &[2]);
-        counts.add('c', &[], 1, &[1]);
+        let mut counts = Counts::new("lines", &[("more", 5)]);
+        counts.add('b', 3, 4, &[5]);
+        counts.add('b', 1, 0, &[2]);
+        counts.add('c', 0, 1, &[1]);
         assert_eq!(counts.rows[1].1, [2, 4, 4, 7]);
         assert_eq!(counts.total(), [3, 4, 5, 8]);
-        let progress = "2 s: 3 inputs, 5 records, 2 inputs per second";
+        let progress = "2 s: 3 inputs, 5 lines, 2 inputs per second";
         assert_eq!(counts.progress(2.0), progress);
     }
 
     #[test]
     fn a_kind_that_did_not_occur_is_missing() {
-        let mut counts = Counts::new(&[]);
-        counts.add('a', &[], 0, &[]);
-        counts.add('c', &[], 0, &[]);
+        let mut counts = Counts::new("records", &[]);
+        counts.add('a', 0, 0, &[]);
+        counts.add('c', 0, 0, &[]);
         assert_eq!(counts.missing().collect::<Vec<_>>(), ['b']);
     }
 }

@@ -2,6 +2,8 @@
 
 use cases::Random;
 
+use crate::Input;
+
 pub trait Kind: Copy + PartialEq + 'static {
     /// Every kind, as they are told at the end.
     const ALL: &'static [Self];
@@ -10,10 +12,12 @@ pub trait Kind: Copy + PartialEq + 'static {
     /// After so many cases every kind has occurred.
     const CYCLE: u64 = Self::ORDER.len() as u64;
 
+    type Input: Input;
+
     fn name(self) -> &'static str;
 
     /// The inputs of a case.
-    fn inputs(self, random: &Random) -> Vec<Vec<u8>>;
+    fn inputs(self, random: &Random) -> Vec<Self::Input>;
 
     fn of_case(case: u64) -> Self {
         Self::ORDER[(case % Self::CYCLE) as usize]
@@ -28,6 +32,8 @@ mod tests {
     impl Kind for char {
         const ALL: &'static [char] = &['a', 'b', 'c'];
         const ORDER: &'static [char] = &['a', 'c', 'b', 'a'];
+
+        type Input = Vec<u8>;
 
         fn name(self) -> &'static str {
             "a letter"

@@ -2,10 +2,12 @@
 //! and how a case that failed is done again.
 
 pub mod counts;
+pub mod input;
 pub mod kind;
 pub mod program;
 pub mod suite;
 pub mod verdict;
 
+pub use input::Input;
 pub use kind::Kind;
 pub use suite::{Checked, Suite};

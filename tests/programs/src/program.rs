@@ -1,8 +1,10 @@
 //! Runs the program under test on one input.
 
 use std::env;
+use std::ffi::OsStr;
 use std::fs::{self, File};
 use std::io::{self, Read, Write};
+use std::os::unix::ffi::OsStrExt;
 use std::path::{Path, PathBuf};
 use std::process::{self, Child, Command, ExitStatus, Stdio};
 use std::sync::mpsc;
@@ -41,14 +43,18 @@ impl Arrival {
     }
 }
 
-/// What is run on an input: the program, or what a test puts in its place.
-pub type Program = Box<dyn Fn(&[u8], Arrival) -> io::Result<Ran>>;
+/// What is run with some arguments and on an input: the program, or what a test puts in its place.
+pub type Program = Box<dyn Fn(&[Vec<u8>], &[u8], Arrival) -> io::Result<Ran>>;
 
 /// The program of this path, for the test of this name.
 pub fn at(path: &str, test: &str) -> Program {
     let path = PathBuf::from(path);
     let file = Scratch(env::temp_dir().join(format!("{test}-{}.input", process::id())));
-    Box::new(move |input, arrival| run(&path, input, arrival, &file.0))
+    Box::new(move |arguments, input, arrival| {
+        let mut command = Command::new(&path);
+        command.args(arguments.iter().map(|argument| OsStr::from_bytes(argument)));
+        run(command, input, arrival, &file.0)
+    })
 }
 
 /// Where an input is put that arrives as a file.
@@ -61,8 +67,7 @@ impl Drop for Scratch {
     }
 }
 
-fn run(program: &Path, input: &[u8], arrival: Arrival, file: &Path) -> io::Result<Ran> {
-    let mut command = Command::new(program);
+fn run(mut command: Command, input: &[u8], arrival: Arrival, file: &Path) -> io::Result<Ran> {
     command.stdout(Stdio::piped()).stderr(Stdio::piped());
     match arrival {
         Arrival::File => {

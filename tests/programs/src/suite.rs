@@ -9,13 +9,18 @@ use cases::plan::{Clock, DEFAULT_SEED};
 use cases::{Extent, Plan, Random};
 
 use crate::counts::{Column, Counts};
-use crate::Kind;
+use crate::{Input, Kind};
+
+/// What a suite is given.
+pub type Given<S> = <<S as Suite>::Kind as Kind>::Input;
 
 /// What makes a test: its inputs, and what it asks of each of them.
-pub trait Suite {
+pub trait Suite: Sized {
     /// The test's own name, which is also that of the files that it leaves.
     const NAME: &'static str;
     const USAGE: &'static str;
+    /// What an input has so and so many of.
+    const RECORDS: &'static str = "records";
     /// What it counts beside inputs, bytes and records.
     const COLUMNS: &'static [Column];
     /// In so many cases all occurs that must occur, and what that is.
@@ -29,7 +34,7 @@ pub trait Suite {
     fn draw(random: &Random, inputs: usize) -> Self::Draw;
 
     /// Holds one input to what should come of it.
-    fn check(&mut self, input: &[u8], draw: Self::Draw) -> io::Result<Checked>;
+    fn check(&mut self, input: &Given<Self>, draw: Self::Draw) -> io::Result<Checked>;
 
     /// Prints what it has to tell beside the table.
     fn print_more(&self) {}
@@ -63,7 +68,7 @@ pub fn main<S: Suite>(make: impl FnOnce(&str) -> S) -> ExitCode {
         suite: make(program),
         program: program.clone(),
         plan,
-        counts: Counts::new(S::COLUMNS),
+        counts: Counts::new(S::RECORDS, S::COLUMNS),
     };
     match test.go() {
         Ok(true) => ExitCode::SUCCESS,
@@ -90,7 +95,7 @@ pub fn first_difference<S: Suite>(suite: &mut S, cases: u64) -> io::Result<Optio
 /// A case: the inputs of a kind, each with what is drawn for it.
 struct Case<S: Suite> {
     kind: S::Kind,
-    inputs: Vec<(Vec<u8>, S::Draw)>,
+    inputs: Vec<(Given<S>, S::Draw)>,
 }
 
 impl<S: Suite> Case<S> {
@@ -171,7 +176,7 @@ impl<S: Suite> Test<S> {
                 return Ok(false);
             }
             let Checked { records, more, .. } = checked;
-            self.counts.add(kind, &input, records, &more);
+            self.counts.add(kind, input.length(), records, &more);
         }
         Ok(true)
     }
@@ -185,7 +190,7 @@ impl<S: Suite> Test<S> {
                 continue;
             }
             let checked = self.suite.check(&input, draw)?;
-            println!("input {index} ({}), {} bytes", kind.name(), input.len());
+            println!("input {index} ({}), {} bytes", kind.name(), input.length());
             let difference = checked.verdict.as_ref().err();
             println!("{}", difference.map_or("no difference", String::as_str));
             self.save(case, index, &input, &checked)?;
@@ -194,12 +199,10 @@ impl<S: Suite> Test<S> {
         Ok(passed)
     }
 
-    fn save(&self, case: u64, index: usize, input: &[u8], checked: &Checked) -> io::Result<()> {
-        let parts = [
-            ("input", input),
-            ("expected", checked.expected.as_bytes()),
-            ("found", &checked.found),
-        ];
+    fn save(&self, case: u64, index: usize, input: &Given<S>, checked: &Checked) -> io::Result<()> {
+        let mut parts = input.parts();
+        parts.push(("expected", checked.expected.as_bytes().into()));
+        parts.push(("found", (&checked.found).into()));
         for (part, bytes) in parts {
             let name = format!("{}-{}-{case}-{index}.{part}", S::NAME, self.plan.seed);
             let path = env::temp_dir().join(name);
@@ -240,8 +243,8 @@ mod tests {
 
         fn draw(_: &Random, _: usize) {}
 
-        fn check(&mut self, input: &[u8], (): ()) -> io::Result<Checked> {
-            let right = input != [self.wrong as u8];
+        fn check(&mut self, input: &Vec<u8>, (): ()) -> io::Result<Checked> {
+            let right = input[..] != [self.wrong as u8];
             Ok(Checked {
                 verdict: right.then_some(()).ok_or("wrong".to_string()),
                 expected: String::new(),
@@ -264,7 +267,7 @@ mod tests {
             },
             program: String::new(),
             plan: Plan { seed: 1, extent },
-            counts: Counts::new(&[]),
+            counts: Counts::new(Letters::RECORDS, &[]),
         };
         test.go().expect("nothing is run")
     }

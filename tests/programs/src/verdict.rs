@@ -4,15 +4,30 @@ use crate::program::Ran;
 
 /// Nothing, or what differs first.
 pub fn judge(expected: &str, ran: &Ran) -> Result<(), String> {
+    judge_printed(expected, ran)?;
+    if !ran.stderr.is_empty() {
+        let text = String::from_utf8_lossy(&ran.stderr);
+        return Err(format!("wrote to standard error: {text:?}"));
+    }
+    Ok(())
+}
+
+/// The same of a run that should print nothing, and should say why on standard error.
+pub fn judge_complaint(ran: &Ran) -> Result<(), String> {
+    judge_printed("", ran)?;
+    match ran.stderr.is_empty() {
+        true => Err("wrote nothing to standard error".to_string()),
+        false => Ok(()),
+    }
+}
+
+/// Of standard output and status.
+fn judge_printed(expected: &str, ran: &Ran) -> Result<(), String> {
     if expected.as_bytes() != ran.stdout {
         return Err(first_line(expected, &ran.stdout));
     }
     if !ran.status.success() {
         return Err(format!("ended with {}", ran.status));
-    }
-    if !ran.stderr.is_empty() {
-        let text = String::from_utf8_lossy(&ran.stderr);
-        return Err(format!("wrote to standard error: {text:?}"));
     }
     Ok(())
 }
@@ -80,5 +95,13 @@ mod tests {
         assert!(judge("short\n", &ran("short\n", "", 256)).is_err());
         assert!(judge("short\n", &ran("short\n", "", 9)).is_err());
         assert!(judge("short\n", &ran("short\n", "?", 0)).is_err());
+    }
+
+    #[test]
+    fn a_complaint_stands_on_standard_error_alone() {
+        assert_eq!(judge_complaint(&ran("", "usage\n", 0)), Ok(()));
+        assert!(judge_complaint(&ran("", "", 0)).is_err());
+        assert!(judge_complaint(&ran("usage\n", "usage\n", 0)).is_err());
+        assert!(judge_complaint(&ran("", "usage\n", 256)).is_err());
     }
 }

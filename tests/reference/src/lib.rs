@@ -4,13 +4,22 @@
 //! [`feed`] follows the document rule by rule. [`feed_fast`] gives the same
 //! results without allocation and is tuned for speed. [`walk`] is the
 //! program walk. [`tally`] counts the requests of a list, [`tally_fast`] does
-//! the same in one pass, and [`tally_text`] is the program tally.
+//! the same in one pass, and [`tally_text`] is the program tally. [`import`]
+//! reads a Set-Cookie line, [`import_fast`] does the same in one pass, and
+//! [`import_text`] is the program import.
 
 #![forbid(unsafe_code)]
 
 mod endpoint;
 mod entry;
 mod fast;
+mod import;
+mod import_attribute_notes;
+mod import_fast;
+mod import_line;
+mod import_notes;
+mod import_seen;
+mod import_text;
 mod interpreter;
 mod kind;
 mod labels;
@@ -32,6 +41,13 @@ mod upgrade;
 mod walk;
 
 pub use fast::feed_fast;
+pub use import::{
+    import, import_noting, Imported, HOST_UNKNOWN, IMPORT_BYTES, NAMES_BYTES, NAME_BYTES, NO_KEY,
+    NO_NAME, NO_NUMBER,
+};
+pub use import_fast::import_fast;
+pub use import_seen::{ImportEvent, ImportSeen};
+pub use import_text::{host_of, import_text, names_of};
 pub use monitor::{feed, feed_noting};
 pub use seen::{Event, Seen};
 pub use tally::{tally, tally_noting, tally_text, Tally, LIST_BAD, LIST_BYTES};

@@ -145,7 +145,7 @@ fn a_panic_is_told() {
 
 /// The first difference that a few cases find with a program that does what it should, and then something else.
 fn told_of(change: impl Fn(&[u8], Ran) -> Ran + 'static) -> Option<String> {
-    let program: Program = Box::new(move |list, _| {
+    let program: Program = Box::new(move |_, list, _| {
         let right = Ran {
             stdout: reference::tally_text(list).into(),
             stderr: Vec::new(),

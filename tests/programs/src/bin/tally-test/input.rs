@@ -89,6 +89,8 @@ impl programs::Kind for Kind {
         Kind::Zeros,
     ];
 
+    type Input = Vec<u8>;
+
     fn name(self) -> &'static str {
         match self {
             Kind::Requests => "requests",

@@ -56,12 +56,12 @@ impl Suite for Tallies {
         }
     }
 
-    fn check(&mut self, list: &[u8], draw: Draw) -> io::Result<Checked> {
+    fn check(&mut self, list: &Vec<u8>, draw: Draw) -> io::Result<Checked> {
         let counted = self.checker.check(list, &Random::new(draw.place));
         let mut checked = checked(counted);
         let goes_there = draw.arrival.filter(|_| checked.verdict.is_ok());
         if let (Some(program), Some(arrival)) = (&self.program, goes_there) {
-            let ran = program(list, arrival)?;
+            let ran = program(&[], list, arrival)?;
             checked.expected = reference::tally_text(list);
             checked.verdict = verdict::judge(&checked.expected, &ran);
             checked.found = ran.stdout;

@@ -82,6 +82,8 @@ impl programs::Kind for Kind {
         Kind::Short,
     ];
 
+    type Input = Vec<u8>;
+
     fn name(self) -> &'static str {
         match self {
             Kind::Run => "run",

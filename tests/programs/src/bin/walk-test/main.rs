@@ -31,8 +31,8 @@ impl Suite for Walk {
         Arrival::random(random)
     }
 
-    fn check(&mut self, input: &[u8], arrival: Arrival) -> io::Result<Checked> {
-        let ran = (self.program)(input, arrival)?;
+    fn check(&mut self, input: &Vec<u8>, arrival: Arrival) -> io::Result<Checked> {
+        let ran = (self.program)(&[], input, arrival)?;
         let expected = reference::walk(input);
         Ok(Checked {
             verdict: verdict::judge(&expected, &ran),

@@ -1,0 +1,155 @@
+//! Reads random Set-Cookie lines by the library and by the program import, and compares all that they say with what the reference says.
+
+mod checker;
+#[cfg(test)]
+mod faults;
+mod input;
+mod run;
+#[cfg(test)]
+mod run_faults;
+
+use std::io;
+use std::process::ExitCode;
+
+use cases::line::Given;
+use cases::{events, Random};
+use programs::counts::Column;
+use programs::program::{self, Arrival, Program};
+use programs::{suite, verdict, Checked, Suite};
+use reference::{Imported, HOST_UNKNOWN, NO_KEY, NO_NAME, NO_NUMBER};
+
+use checker::{Checker, Compared};
+use input::{Input, Kind};
+use run::Run;
+
+/// The numbers that have a column; the last column tells how many inputs went to the program.
+const NUMBERS: [u32; 5] = [0, HOST_UNKNOWN, NO_NAME, NO_KEY, NO_NUMBER];
+const TO_IMPORT: usize = NUMBERS.len();
+
+/// In place of the program: the library alone is tested.
+const LIBRARY_ALONE: &str = "--library";
+
+struct Imports {
+    checker: Checker,
+    program: Option<Program>,
+}
+
+/// Where names and line are laid for the library, and how an input reaches the program.
+struct Draw {
+    place: u64,
+    arrival: Arrival,
+}
+
+impl Suite for Imports {
+    const NAME: &'static str = "import-test";
+    const USAGE: &'static str = "usage: import-test PATH_TO_IMPORT [SECONDS [SEED]]
+       import-test PATH_TO_IMPORT --cases N [SEED]
+       import-test PATH_TO_IMPORT --replay SEED:CASE[:INPUT]
+--library in place of PATH_TO_IMPORT tests the library alone, and leaves out what is for the program.";
+    const RECORDS: &'static str = "lines";
+    const COLUMNS: &'static [Column] = &[
+        ("number 0", 10),
+        ("6", 9),
+        ("14", 9),
+        ("15", 9),
+        ("16", 9),
+        ("to import", 11),
+    ];
+    const COVERING: (u64, &'static str) = (1_000, "kind and event");
+
+    type Kind = Kind;
+    type Draw = Draw;
+
+    fn draw(random: &Random, _: usize) -> Draw {
+        Draw {
+            place: random.bits(),
+            arrival: Arrival::random(random),
+        }
+    }
+
+    fn check(&mut self, input: &Input, draw: Draw) -> io::Result<Checked> {
+        match (input, &self.program) {
+            (Input::Line(given), _) => Ok(self.check_line(given, &Random::new(draw.place))),
+            (Input::Run(run), Some(program)) => check_run(run, program, draw.arrival),
+            (Input::Run(_), None) => Ok(left_out()),
+        }
+    }
+
+    fn print_more(&self) {
+        events::print(&self.checker.events());
+    }
+
+    fn missing(&self) -> Vec<&'static str> {
+        events::never_seen(&self.checker.events())
+    }
+}
+
+impl Imports {
+    /// Of a line for the library.
+    fn check_line(&mut self, given: &Given, random: &Random) -> Checked {
+        let Compared {
+            expected,
+            found,
+            verdict,
+        } = self.checker.check(given, random);
+        let counted = NUMBERS.map(|number| u64::from(expected.number == number));
+        Checked {
+            verdict,
+            expected: text(&expected),
+            found: found.as_ref().map(text).unwrap_or_default().into(),
+            records: 1,
+            more: [&counted[..], &[0]].concat(),
+        }
+    }
+}
+
+/// Of lines for the program.
+fn check_run(run: &Run, program: &Program, arrival: Arrival) -> io::Result<Checked> {
+    let ran = program(&run.arguments, &run.input, arrival)?;
+    let printed = run.printed();
+    let verdict = match &printed {
+        Some(expected) => verdict::judge(expected, &ran),
+        None => verdict::judge_complaint(&ran),
+    };
+    let expected = printed.unwrap_or_default();
+    let mut more = vec![0; TO_IMPORT + 1];
+    more[TO_IMPORT] = 1;
+    Ok(Checked {
+        verdict,
+        records: expected.lines().count() as u64,
+        expected,
+        found: ran.stdout,
+        more,
+    })
+}
+
+/// Of lines for the program, where it is not tested.
+fn left_out() -> Checked {
+    Checked {
+        verdict: Ok(()),
+        expected: String::new(),
+        found: Vec::new(),
+        records: 0,
+        more: vec![0; TO_IMPORT + 1],
+    }
+}
+
+/// An answer as it is saved to be looked at.
+fn text(imported: &Imported) -> String {
+    let Imported {
+        number,
+        key,
+        value,
+        secure,
+        http_only,
+        readers,
+    } = imported;
+    format!("number {number}\nkey {key}\nvalue {value}\nsecure {secure}\nhttp_only {http_only}\nreaders {readers:08x}\n")
+}
+
+fn main() -> ExitCode {
+    suite::main(|path| Imports {
+        checker: Checker::new(Box::new(checker::library)),
+        program: (path != LIBRARY_ALONE).then(|| program::at(path, Imports::NAME)),
+    })
+}
