@@ -4,10 +4,11 @@ use Rattle.prelude.specs.Refusals.{accepted, firstOf}
 use Rattle.prelude.proofs.Refusals.{first-is, none-applies}
 use Rattle.labels.specs.Addresses.{hosts}
 use Rattle.machine.specs.Policy.{hostKeys}
-use Rattle.cookie.specs.declared.digits.Value.the-variants.{Number, Other}
+use Rattle.text.specs.Numbers.{numberOf, isNumber, numberRead}
+use Rattle.text.specs.declared.digits.Value.the-variants.{Number, Other}
 use Rattle.cookie.specs.Parts.{has}
 use Rattle.cookie.specs.SetCookie.{equals, pairOf, nameOf, valueOf, flagsOf}
-use Rattle.cookie.specs.Import.{namesBytes, keyNamed, numberOf, isNumber, valueRead, hostUnknown, noName, noKey, noNumber, importRefusals, refused, answer, imported}
+use Rattle.cookie.specs.Import.{namesBytes, keyNamed, hostUnknown, noName, noKey, noNumber, importRefusals, refused, answer, imported}
 
 module _ (host : ℕ) (names line : List ℕ) where
   abbrev first : ℕ
@@ -42,7 +43,7 @@ module _ (host : ℕ) (names line : List ℕ) where
               (eq-eqb (keyNamed names (nameOf (pairOf line))) hostKeys k))
 
           module _ (k : keyNamed names (nameOf (pairOf line)) ≡ hostKeys → ⊥) where
-            pub no-number : valueRead (valueOf (pairOf line)) ≡ Other → imported host names line ≡ refused noNumber
+            pub no-number : numberRead (valueOf (pairOf line)) ≡ Other → imported host names line ≡ refused noNumber
             no-number v =
                 refused-by 15 (first-is accepted 5 (importRefusals host names (pairOf line))
                 (rw (lt-ltb host hosts l), (rw e, (ne-eqb (length (nameOf (pairOf line))) 0 n, (rw (eq-eqb (length names) namesBytes m), (ne-eqb (keyNamed names (nameOf (pairOf line))) hostKeys k, tt)))))
@@ -52,7 +53,7 @@ module _ (host : ℕ) (names line : List ℕ) where
                 go true v = let z : _≡_ {A = ℕ} 0 1 = cc in absurd (omega arith)
                 go false v = refl
 
-            pub is-number : (value : ℕ) → valueRead (valueOf (pairOf line)) ≡ Number value
+            pub is-number : (value : ℕ) → numberRead (valueOf (pairOf line)) ≡ Number value
                 → imported host names line ≡ answer host (keyNamed names (nameOf (pairOf line))) value (flagsOf line)
             unfolding imported
             is-number value v = rw (none, sym (go (isNumber (valueOf (pairOf line))) v .1))

@@ -1,5 +1,6 @@
 -- Two texts compared from a place on: they are the same just where the bytes there are and the rest is.
-use Rattle.prelude.proofs.Kit.{ℕ, _≤_, _<_, _+_, suc, add-one, arith, true, Bool, false, _&&_, List, _∷_, [], map, _≡_, sym, _∙_, refl, ap, length, drop, getD, eqb, eq-eqb, ne-eqb, drop-cons, drop-of-length-le}
+use Rattle.prelude.proofs.Kit.{ℕ, _≤_, _<_, _+_, suc, add-one, arith, true, false, List, _∷_, [], map, _≡_, sym, _∙_, refl, ap, length, drop, getD, eq-eqb, ne-eqb, drop-cons, drop-of-length-le}
+use mathlib.Core.Bool.{and-false}
 use lib.ListN.{length-map, List·getD-map}
 use Rattle.prelude.specs.Lists.{sameNumbers}
 use Rattle.cookie.specs.Parts.{lower}
@@ -9,11 +10,7 @@ unfolding sameNumbers
 other-length [] [] ne = absurd (ne refl)
 other-length [] (y ∷ ys) ne = refl
 other-length (x ∷ xs) [] ne = refl
-other-length (x ∷ xs) (y ∷ ys) ne = rw (other-length xs ys (λ e. ne (ap suc e))) (and-false (eqb x y))
-  where
-    and-false : (b : Bool) → b && false ≡ false
-    and-false true = refl
-    and-false false = refl
+other-length (x ∷ xs) (y ∷ ys) ne = rw (other-length xs ys (λ e. ne (ap suc e)), and-false)
 
 -- at a place, before which the bytes are the same
 pub record Comparing (xs ys : List ℕ) (i : ℕ) : Type 0 where

@@ -5,8 +5,10 @@ use lib.Dec.{leb, leb→le}
 use lib.ListN.{replicate}
 use borrow.Author.Tests.{eqb-false}
 use Rattle.prelude.specs.Choice.{every}
+use Rattle.prelude.specs.Lists.{isEmpty}
 use Rattle.prelude.specs.Refusals.{accepted, firstOf}
 use Rattle.prelude.proofs.Choices.{is-false, passes}
+use Rattle.prelude.proofs.Lowest.{lowest-is, lowest-most, lowest-passes, below-lowest}
 use Rattle.prelude.proofs.Refusals.{NoneOf, none-applied, number-of}
 use Rattle.labels.specs.Sets.{holds}
 use Rattle.labels.specs.Addresses.{hosts, hostEndpoints}
@@ -15,15 +17,14 @@ use Rattle.machine.specs.Policy.{hostKeys}
 use Rattle.text.specs.Text.{decimal, digit}
 use Rattle.cookie.specs.declared.Imported.{Imported}
 use Rattle.cookie.specs.declared.attributes.Flags.{Flags}
-use Rattle.cookie.specs.declared.digits.Value.the-variants.{Number}
-use Rattle.cookie.specs.Parts.{isEmpty, has, trim}
+use Rattle.text.specs.declared.digits.Value.the-variants.{Number}
+use Rattle.cookie.specs.Parts.{has, trim}
 use Rattle.cookie.specs.SetCookie.{semicolon, equals, pairOf, nameOf, valueOf, someCalled, flagsOf}
-use Rattle.cookie.specs.Import.{keyName, valueRead, isNamed, keysNamed, keyNamed, isDigit, numberOf, mostDigits, largest, isNumber, importRefusals, refused, answer, imported}
+use Rattle.text.specs.Numbers.{isDigit, numberOf, mostDigits, largest, isNumber, numberRead}
+use Rattle.cookie.specs.Import.{keyName, isNamed, keyNamed, importRefusals, refused, answer, imported}
 use Rattle.cookie.specs.Guarantees.{NoAttributesNoFlags, OtherAttributesChangeNothing, PairDecides, RefusalIsZeros, ValueIsWritten, WrittenIsRead, LowestKeyIsTold, ReadersAreTheHosts}
 use Rattle.cookie.proofs.Adding.{no-attributes, whole-before, pair-more, flags-more}
 use Rattle.cookie.proofs.Answers.{is-number}
-use Rattle.cookie.proofs.Lowest.{lowest}
-use Rattle.cookie.proofs.Naming.{lowest-is}
 use Rattle.cookie.proofs.ReadBack.{stands-between, before-it, after-it, has-neither, same-itself, decimal-is-read, decimal-lacks, decimal-untrimmed}
 use Rattle.cookie.proofs.Written.{nothing-written, writes-all, in-decimal}
 
@@ -136,11 +137,11 @@ readers-are-the-hosts host names line ok = (
 
 -- the lowest key
 pub lowest-key-is-told : LowestKeyIsTold
-unfolding keysNamed
 lowest-key-is-told host names line ok =
-    let found = lowest (isNamed names (nameOf (pairOf line))) hostKeys 0 refl (key-known host names line ok) in
+    let named = isNamed names (nameOf (pairOf line)) in
+    let below : keyNamed names (nameOf (pairOf line)) < hostKeys = omega (arith, lowest-most hostKeys named, key-known host names line ok) in
     subst (λ (r : Imported). (r .key < hostKeys) × T (isNamed names (nameOf (pairOf line)) (r .key)) × ((j : ℕ) → j < r .key → T (not (isNamed names (nameOf (pairOf line)) j))))
-    (sym (is-answer host names line ok)) (found .0, found .1, λ j l. found .2 j (omega arith) l)
+    (sym (is-answer host names line ok)) (below, lowest-passes hostKeys named below, below-lowest hostKeys named)
 
 -- the number that digits write
 pub value-is-written : ValueIsWritten
@@ -177,9 +178,9 @@ module _ (name : List ℕ) (n : ℕ) (small : n ≤ largest) (no-equals : has eq
   name-is : nameOf (pairOf written) ≡ name
   name-is = ap nameOf pair-is ∙ ap trim (before-it equals (decimal n) name no-equals) ∙ trimmed
 
-  value-is : valueRead (valueOf (pairOf written)) ≡ Number n
+  value-is : numberRead (valueOf (pairOf written)) ≡ Number n
   value-is =
-      ap valueRead (ap valueOf pair-is ∙ ap trim (after-it equals (decimal n) name no-equals) ∙ decimal-untrimmed n small)
+      ap numberRead (ap valueOf pair-is ∙ ap trim (after-it equals (decimal n) name no-equals) ∙ decimal-untrimmed n small)
       ∙ decimal-is-read n small
 
   no-flags : flagsOf written ≡ record { secure = false; «http_only» = false }
@@ -193,7 +194,7 @@ written-is-read host names k n lh ln lk small some no-equals no-semicolon trimme
     let s = is-false (has semicolon name) no-semicolon in
     let e = is-false (isEmpty name) some in
     let named : isNamed names name k ≡ true = rw (e, same-itself name) in
-    let key : keyNamed names (nameOf (pairOf (written name n small q s trimmed))) ≡ k = ap (keyNamed names) (name-is name n small q s trimmed) ∙ lowest-is names name k lk named lowest in
+    let key : keyNamed names (nameOf (pairOf (written name n small q s trimmed))) ≡ k = ap (keyNamed names) (name-is name n small q s trimmed) ∙ lowest-is hostKeys (isNamed names name) k lk (subst T (sym named) tt) lowest in
     is-number host names (written name n small q s trimmed) lh (has-equals name n small q s trimmed)
     (λ z. eqb-false (length name) 0 e (ap length (sym (name-is name n small q s trimmed)) ∙ z)) ln (λ z. omega (arith, key, z, lk)) n (value-is name n small q s trimmed)
     ∙ ap₂ (λ (at : ℕ) (flags : Flags). answer host at n flags) key (no-flags name n small q s trimmed)

@@ -1,12 +1,10 @@
 pub mod Finding
 pub mod Trimming
 pub mod Comparing
-pub mod Reading
 pub mod Naming
 pub mod Flagging
 pub mod Answers
 pub mod Adding
-pub mod Lowest
 pub mod Written
 pub mod ReadBack
 pub mod Guarantees

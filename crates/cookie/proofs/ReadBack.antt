@@ -9,9 +9,9 @@ use Rattle.prelude.specs.Lists.{sameNumbers}
 use Rattle.text.specs.Text.{decimal, decimalWithin, digit}
 use Rattle.cookie.specs.Parts.{has, before, after, isBlank, trimStart, trimEnd, trim}
 use Rattle.text.proofs.Decimals.{decimal-ten}
-use Rattle.cookie.specs.declared.digits.Value.the-variants.{Number}
-use Rattle.cookie.specs.Import.{isDigit, numberAfter, numberOf, mostDigits, largest, isNumber, valueRead}
-use Rattle.cookie.proofs.Reading.{is-digit}
+use Rattle.text.specs.declared.digits.Value.the-variants.{Number}
+use Rattle.text.specs.Numbers.{isDigit, numberAfter, numberOf, mostDigits, largest, isNumber, numberRead}
+use Rattle.text.proofs.Reading.{is-digit}
 
 -- ---- a byte between two texts
 
@@ -119,7 +119,7 @@ unfolding decimal
 reads n l = within 9 n (omega arith)
 
 -- so it is read as that number
-pub decimal-is-read : (n : ℕ) → n ≤ largest → valueRead (decimal n) ≡ Number n
+pub decimal-is-read : (n : ℕ) → n ≤ largest → numberRead (decimal n) ≡ Number n
 unfolding isNumber Reads
 decimal-is-read n l =
     let r = reads n l in

@@ -6,7 +6,7 @@ use lib.ListN.{replicate, replicate-append-replicate}
 use Rattle.prelude.specs.Choice.{every}
 use Rattle.text.specs.Text.{decimal, digit}
 use Rattle.text.proofs.Decimals.{decimal-one, decimal-more}
-use Rattle.cookie.specs.Import.{isDigit, numberAfter}
+use Rattle.text.specs.Numbers.{isDigit, numberAfter}
 
 -- a text writes a number: zeros, then the number's digits; 0 has none of its own
 significant : ℕ → List ℕ

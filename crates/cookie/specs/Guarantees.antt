@@ -6,12 +6,13 @@ use mathlib.Core.List.{List, [], _∷_, _++_}
 use mathlib.Core.Path.{_≡_}
 use lib.Dec.{T, eqb}
 use lib.ListN.{length, replicate}
+use Rattle.prelude.specs.Lists.{isEmpty}
 use Rattle.prelude.specs.Refusals.{accepted}
 use Rattle.labels.specs.Sets.{holds}
 use Rattle.labels.specs.Addresses.{hosts, hostEndpoints}
 use Rattle.machine.specs.Policy.{hostKeys}
 use Rattle.text.specs.Text.{decimal, digit}
-use Rattle.cookie.specs.Parts.{isEmpty, has, trim}
+use Rattle.cookie.specs.Parts.{has, trim}
 use Rattle.cookie.specs.SetCookie.{semicolon, equals, pairOf, nameOf, valueOf, secureWord, httpOnlyWord, isCalled}
 use Rattle.cookie.specs.Import.{namesBytes, keyName, isNamed, refused, answer, imported}
 

@@ -1,21 +1,19 @@
 -- What is imported of a Set-Cookie line (document 01, "Take in Set-Cookie lines"): the key that has its name, its value as a number, its flags, and who
 -- may read it; or the first refusal that fits, with zeros.
-use Prim.Native.Nat.{ℕ, _+_, _-_, _*_}
+use Prim.Native.Nat.{ℕ, _*_}
 use mathlib.Core.Bool.{Bool, false, not, _&&_, cond}
 use mathlib.Core.List.{List, [], _∷_}
-use lib.Dec.{leb, ltb, eqb}
-use lib.ListN.{length, take, drop, getD}
-use Rattle.prelude.specs.Choice.{keep, every}
-use Rattle.prelude.specs.Lists.{numbers, sameNumbers}
+use lib.Dec.{ltb, eqb}
+use lib.ListN.{length, take, drop}
+use Rattle.prelude.specs.Lists.{isEmpty, lowest, sameNumbers}
 use Rattle.prelude.specs.Refusals.{accepted, Refusal, refuse, firstOf}
 use Rattle.labels.specs.Sets.{wordOf}
 use Rattle.labels.specs.Addresses.{hosts, hostEndpoints}
 use Rattle.machine.specs.Policy.{hostKeys}
+use Rattle.text.specs.Numbers.{numberOf, isNumber}
 use Rattle.cookie.specs.declared.Imported.{Imported}
 use Rattle.cookie.specs.declared.attributes.Flags.{Flags}
-use Rattle.cookie.specs.declared.digits.Value.{Value}
-use Rattle.cookie.specs.declared.digits.Value.the-variants.{Number, Other}
-use Rattle.cookie.specs.Parts.{isEmpty, has, before}
+use Rattle.cookie.specs.Parts.{has, before}
 use Rattle.cookie.specs.SetCookie.{equals, pairOf, nameOf, valueOf, flagsOf}
 
 -- ---- names
@@ -35,35 +33,9 @@ keyName names k = before 0 (take nameBytes (drop (k * nameBytes) names))
 abbrev pub isNamed : List ℕ → List ℕ → ℕ → Bool
 isNamed names name k = not (isEmpty (keyName names k)) && sameNumbers (keyName names k) name
 
--- the keys that have the name, in rising order; and the lowest of them, or 8 where there is none
-unfoldable pub keysNamed : List ℕ → List ℕ → List ℕ
-keysNamed names name = keep (isNamed names name) (numbers 0 hostKeys)
-
+-- the lowest key that has the name, or 8 where there is none
 abbrev pub keyNamed : List ℕ → List ℕ → ℕ
-keyNamed names name = getD (keysNamed names name) 0 hostKeys
-
--- ---- numbers
-
-abbrev pub isDigit : ℕ → Bool
-isDigit x = leb 0x30 x && leb x 0x39
-
--- the number that digits write, after others that wrote n: each is added to ten times what stands before it
-unfoldable pub numberAfter : ℕ → List ℕ → ℕ
-numberAfter n [] = n
-numberAfter n (d ∷ ds) = numberAfter (n * 10 + (d - 0x30)) ds
-
-abbrev pub numberOf : List ℕ → ℕ
-numberOf text = numberAfter 0 text
-
-abbrev pub mostDigits : ℕ
-mostDigits = 10
-
-abbrev pub largest : ℕ
-largest = 4294967295
-
--- one to ten digits, zeros in front among them, that make at most 4,294,967,295
-unfoldable pub isNumber : List ℕ → Bool
-isNumber text = not (isEmpty text) && (leb (length text) mostDigits && (every isDigit text && leb (numberOf text) largest))
+keyNamed names name = lowest hostKeys (isNamed names name)
 
 -- ---- refusals
 
@@ -113,8 +85,3 @@ imported host names line =
     let pair = pairOf line in
     let n = firstOf (importRefusals host names pair) accepted in
     cond (eqb n accepted) (answer host (keyNamed names (nameOf pair)) (numberOf (valueOf pair)) (flagsOf line)) (refused n)
-
--- ---- for the contract of a function within the crate
-
-abbrev pub valueRead : List ℕ → Value
-valueRead text = cond (isNumber text) (Number (numberOf text)) Other

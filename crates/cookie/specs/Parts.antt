@@ -7,10 +7,7 @@ use mathlib.Core.Path.{_≡_}
 use lib.Dec.{leb, eqb}
 use lib.ListN.{length, drop}
 use Rattle.prelude.specs.Choice.{branch}
-use Rattle.prelude.specs.Lists.{sameNumbers}
-
-abbrev pub isEmpty : List ℕ → Bool
-isEmpty text = eqb (length text) 0
+use Rattle.prelude.specs.Lists.{isEmpty, sameNumbers}
 
 unfoldable pub has : ℕ → List ℕ → Bool
 has byte [] = false

@@ -5,14 +5,11 @@ ghost use Rattle.machine.specs.Policy.{hostKeys};
 ghost use Rattle.cookie.specs.Import.{refused, answer, imported};
 
 pub mod attributes;
-pub mod digits;
 pub mod names;
 pub mod parts;
 
 use attributes::Flags;
 use attributes::flags_of;
-use digits::Value;
-use digits::read_number;
 use labels::addresses::HOSTS;
 use labels::addresses::host_endpoints;
 use names::NAMES_BYTES;
@@ -20,6 +17,8 @@ use names::key_named;
 use parts::position;
 use parts::trim;
 use policy::words::HOST_KEYS;
+use text::digits::Value;
+use text::digits::read_number;
 
 // The number of a line that nothing refuses.
 pub const ACCEPTED: u32 = 0;

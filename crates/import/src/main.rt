@@ -9,8 +9,6 @@ ghost use Rattle.import.specs.Report.{lineText, printed, inputLimit};
 mod lines;
 mod report;
 
-use cookie::digits::Value;
-use cookie::digits::read_number;
 use cookie::names::NAME_BYTES;
 use cookie::names::NAMES_BYTES;
 use cookie::parts::position;
@@ -20,6 +18,8 @@ use libc::STDOUT_FILENO;
 use policy::words::HOST_KEYS;
 use report::LINE_BYTES;
 use report::write_line;
+use text::digits::Value;
+use text::digits::read_number;
 
 const INPUT_LIMIT: usize = 65_536;
 

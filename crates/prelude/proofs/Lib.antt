@@ -3,3 +3,4 @@ pub mod Choices
 pub mod Refusals
 pub mod Bits
 pub mod Lists
+pub mod Lowest

@@ -1,9 +1,12 @@
-// Text: pieces of a line, for programs that print. Each is written from a place of a text on, and the place after it is answered.
+// Text: pieces of a line, for programs that print. Each is written from a place of a text on, and the place after it is answered. Numbers are read
+// as well.
 ghost use Prim.Native.Nat.{_+_, _<_, _≤_};
 ghost use mathlib.Core.Path.{_≡_};
 ghost use mathlib.Core.List.{[], _∷_, _++_};
 ghost use lib.ListN.{length};
 ghost use Rattle.text.specs.Text.{decimal, hexDigit, hex, hexWord, line, Wrote};
+
+pub mod digits;
 
 pub fn write_bytes(text: &mut [u8], at: usize, bytes: &[u8]) -> usize
     requires { ⌜ at + length (now bytes) ≤ length (now text) ⌝ }

@@ -1,14 +1,15 @@
 -- `cookie_import` meets its contract: at each return the tests before it say what is answered.
 use Rattle.prelude.proofs.Kit.{ℕ, _≤_, _<_, _+_, _-_, arith, true, false, List, _≡_, sym, _∙_, ap, ap₂, now, length, take, drop, length-take-le, lt-ltb, le-ltb, needs}
 use Rattle.prelude.proofs.Lists.{rest-is}
+use Rattle.prelude.proofs.Lowest.{lowest-most}
 use Rattle.labels.specs.Addresses.{hosts}
 use Rattle.machine.specs.Policy.{hostKeys}
+use Rattle.text.specs.Numbers.{numberRead}
 use Rattle.cookie.specs.declared.attributes.Flags.{Flags}
 use Rattle.cookie.specs.Parts.{has, before, after, trim}
 use Rattle.cookie.specs.SetCookie.{semicolon, equals, pairOf, nameOf, valueOf, flagsOf}
-use Rattle.cookie.specs.Import.{keyNamed, valueRead, answer}
+use Rattle.cookie.specs.Import.{isNamed, keyNamed, answer}
 use Rattle.cookie.proofs.Finding.{before-most, has-is, found-within, found-front, found-back}
-use Rattle.cookie.proofs.Naming.{key-most}
 use Rattle.cookie.proofs.Flagging.{flags-after}
 use Rattle.cookie.proofs.Answers.{no-host, no-equals, no-name, no-names, no-key, no-number, is-number}
 use Rattle.cookie.proofs.cookie_import.Statement.{statement}
@@ -88,8 +89,8 @@ value-is v =
 key-known : (e : tie.Else5) → keyNamed (names (looked e)) (nameOf (pairOf (line (looked e)))) ≡ hostKeys → ⊥
 key-known e k = e .if5 .left (key-is (e .before) ∙ k)
 
-read-is : (r : tie.After-read-number) → r .read-number .result ≡ valueRead (valueOf (pairOf (line (looked (r .before .before .before)))))
-read-is r = r .read-number .ensures ∙ ap valueRead (value-is (r .before))
+read-is : (r : tie.After-read-number) → r .read-number .result ≡ numberRead (valueOf (pairOf (line (looked (r .before .before .before)))))
+read-is r = r .read-number .ensures ∙ ap numberRead (value-is (r .before))
 
 abbrev keyed : tie.After-known-told → tie.Else5
 keyed c = c .before .before .before .before .before .before
@@ -152,7 +153,7 @@ part-flags-of-start : tie.Need-part-flags-of-start
 part-flags-of-start c = pair-within (found c)
 
 answer-requires : tie.Need-answer-requires
-answer-requires c κs = let e = keyed (c .before .before) in omega (arith, key-is (e .before), e .if5 .left, key-most (names (looked e)) (nameOf (pairOf (line (looked e)))))
+answer-requires c κs = let e = keyed (c .before .before) in omega (arith, key-is (e .before), e .if5 .left, lowest-most hostKeys (isNamed (names (looked e)) (nameOf (pairOf (line (looked e))))))
 
 enum-told : tie.Need-enum-told
 enum-told c = search needs

@@ -3,12 +3,13 @@ use Rattle.prelude.proofs.Kit.{ℕ, _-_, List, _≡_, sym, _∙_, ap, needs, no
 use Rattle.prelude.specs.Lists.{sameNumbers}
 use Rattle.machine.specs.Policy.{hostKeys}
 use Rattle.cookie.specs.Import.{isNamed, keyNamed}
-use Rattle.cookie.proofs.Naming.{lowestFrom, lowest-of-all, lowest-of-none, lowest-here, lowest-later, named-is}
+use Rattle.prelude.proofs.Lowest.{lowestFrom, lowest-of-all, lowest-of-none, lowest-here, lowest-later}
+use Rattle.cookie.proofs.Naming.{named-is}
 use Rattle.cookie.proofs.names.key_named.Statement.{statement}
 use Rattle.cookie.proofs.names.key_named.Tie as tie
 
 abbrev Inv-loop : tie.InvT-loop
-Inv-loop names name key₀ key = lowestFrom names name key ≡ keyNamed names name
+Inv-loop names name key₀ key = lowestFrom hostKeys (isNamed names name) key ≡ keyNamed names name
 
 abbrev μ-loop : tie.MeasureT-loop
 μ-loop names name key₀ key = hostKeys - key

@@ -1,12 +1,12 @@
 -- Digits are read one after another: what they write so far and those that are left make the number.
-use Rattle.prelude.proofs.Kit.{ℕ, _≤_, _<_, _+_, _-_, _*_, _^_, add-one, zero-lt-suc, arith, true, Bool, false, not, _&&_, cond, List, _≡_, sym, _∙_, refl, length, drop, getD, eqb, drop-cons}
+use Rattle.prelude.proofs.Kit.{ℕ, _≤_, _<_, _+_, _-_, _*_, _^_, add-one, zero-lt-suc, arith, true, false, List, _≡_, sym, _∙_, refl, length, drop, getD, drop-cons}
 use native.Mathlib.Nat.{pow-suc, pow-le-pow-right}
-use lib.Dec.{leb}
+use mathlib.Core.Bool.{and-false}
 use lib.Seq.{drop-length}
 use borrow.Author.Tests.{le-leb, lt-leb, eq-eqb, ne-eqb}
 use Rattle.prelude.specs.Choice.{every}
-use Rattle.cookie.specs.declared.digits.Value.the-variants.{Number, Other}
-use Rattle.cookie.specs.Import.{isDigit, numberAfter, numberOf, mostDigits, largest, isNumber, valueRead}
+use Rattle.text.specs.declared.digits.Value.the-variants.{Number, Other}
+use Rattle.text.specs.Numbers.{isDigit, numberAfter, numberOf, mostDigits, largest, isNumber, numberRead}
 
 -- digits before place i wrote n
 pub record Reading (text : List ℕ) (n i : ℕ) : Type 0 where
@@ -23,26 +23,17 @@ module _ (text : List ℕ) where
 
   -- what is no number
   module _ (no : every isDigit text ≡ false) where
-    pub no-digits : valueRead text ≡ Other
+    pub no-digits : numberRead text ≡ Other
     unfolding isNumber
-    no-digits = rw no (go (not (eqb (length text) 0)) (leb (length text) mostDigits))
-      where
-        go : (a b : Bool) → cond (a && (b && false)) (Number (numberOf text)) Other ≡ Other
-        go true true = refl
-        go true false = refl
-        go false b = refl
+    no-digits = rw (no, and-false, and-false)
 
-  pub no-text : length text ≡ 0 → valueRead text ≡ Other
+  pub no-text : length text ≡ 0 → numberRead text ≡ Other
   unfolding isNumber
   no-text e = rw (eq-eqb (length text) 0 e)
 
-  pub too-many : mostDigits < length text → valueRead text ≡ Other
+  pub too-many : mostDigits < length text → numberRead text ≡ Other
   unfolding isNumber
-  too-many l = rw (lt-leb (length text) mostDigits l) (go (not (eqb (length text) 0)))
-    where
-      go : (a : Bool) → cond (a && false) (Number (numberOf text)) Other ≡ Other
-      go true = refl
-      go false = refl
+  too-many l = rw (lt-leb (length text) mostDigits l, and-false)
 
   module _ {n i : ℕ} (r : Reading text n i) where
     -- ten digits make less than 2 ^ 64
@@ -53,7 +44,7 @@ module _ (text : List ℕ) where
       abbrev next : ℕ
       next = getD text i 0
 
-      pub reading-stops : isDigit next ≡ false → valueRead text ≡ Other
+      pub reading-stops : isDigit next ≡ false → numberRead text ≡ Other
       unfolding every
       reading-stops e = no-digits (sym (r .digits) ∙ rw (drop-cons text i 0 l, e))
 
@@ -77,12 +68,12 @@ module _ (text : List ℕ) where
       unfolding numberAfter
       read-all = rw (e, drop-length text) at (r .number)
 
-      pub too-large : largest < n → valueRead text ≡ Other
+      pub too-large : largest < n → numberRead text ≡ Other
       unfolding isNumber
       too-large k =
           rw (ne-eqb (length text) 0 (λ z. omega (arith, z, r .some)), le-leb (length text) mostDigits (r .short), all-digits, lt-leb (numberOf text) largest (omega (arith, k, read-all)))
 
-      pub is-read : n ≤ largest → valueRead text ≡ Number n
+      pub is-read : n ≤ largest → numberRead text ≡ Number n
       unfolding isNumber
       is-read k =
           rw (ne-eqb (length text) 0 (λ z. omega (arith, z, r .some)), le-leb (length text) mostDigits (r .short), all-digits, le-leb (numberOf text) largest (omega (arith, k, read-all)), sym read-all)
@@ -95,8 +86,4 @@ pub below-digits : (x : ℕ) → x < 0x30 → isDigit x ≡ false
 below-digits x l = rw (lt-leb 0x30 x l)
 
 pub above-digits : (x : ℕ) → 0x39 < x → isDigit x ≡ false
-above-digits x l = rw (lt-leb x 0x39 l) (go (leb 0x30 x))
-  where
-    go : (b : Bool) → b && false ≡ false
-    go true = refl
-    go false = refl
+above-digits x l = rw (lt-leb x 0x39 l, and-false)

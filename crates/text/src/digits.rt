@@ -1,6 +1,6 @@
 // Numbers that digits write.
 ghost use mathlib.Core.Path.{_≡_};
-ghost use Rattle.cookie.specs.Import.{valueRead};
+ghost use Rattle.text.specs.Numbers.{numberRead};
 
 // No number has more.
 const MOST_DIGITS: usize = 10;
@@ -15,7 +15,7 @@ pub enum Value {
 
 // One to ten digits, zeros in front among them, that make at most 4,294,967,295.
 pub fn read_number(text: &[u8]) -> Value
-    ensures { λ r. ⌜ r ≡ valueRead (now (text .entry)) ⌝ }
+    ensures { λ r. ⌜ r ≡ numberRead (now (text .entry)) ⌝ }
 {
     if text.len() == 0 {
         return Value::Other;

@@ -1,8 +1,8 @@
 -- `digits::read_number` meets its contract: digits are read until one is none, and what they make is held to the bound.
 use Rattle.prelude.proofs.Kit.{_-_, _≡_, sym, arith, needs, now, length}
-use Rattle.cookie.proofs.Reading.{Reading, reading-begins, reading-stops, reading-goes-on, below, no-text, too-many, too-large, is-read, is-digit, below-digits, above-digits}
-use Rattle.cookie.proofs.digits.read_number.Statement.{statement}
-use Rattle.cookie.proofs.digits.read_number.Tie as tie
+use Rattle.text.proofs.Reading.{Reading, reading-begins, reading-stops, reading-goes-on, below, no-text, too-many, too-large, is-read, is-digit, below-digits, above-digits}
+use Rattle.text.proofs.digits.read_number.Statement.{statement}
+use Rattle.text.proofs.digits.read_number.Tie as tie
 
 abbrev Inv-loop : tie.InvT-loop
 Inv-loop text n₀ i₀ i-end n i = Reading text n i
