@@ -1,7 +1,7 @@
 -- The sets of an address's endpoints: what is missing of one is the endpoint, just where a set does not hold it. And the words of a host's endpoints.
-use Rattle.prelude.proofs.Kit.{ℕ, _≤_, _<_, _+_, _^_, arith, true, false, Bool, _&&_, _≡_, sym, _∙_, ap, T, ltb, ltb→lt, and-l, and-r, lt-ltb, le-ltb, ne-eqb, not-T}
-use Rattle.prelude.proofs.Kit.{not, refl, ⊎-elim}
-use mathlib.Core.Bool.{Bool·beq}
+use Rattle.prelude.proofs.Kit.{ℕ, _≤_, _<_, _+_, _^_, arith, true, false, Bool, _&&_, _≡_, _∙_, ap, T, ltb, ltb→lt, and-l, and-r, lt-ltb, le-ltb, ne-eqb, not-T}
+use Rattle.prelude.proofs.Kit.{⊎-elim}
+use mathlib.Core.Bool.{Bool·beq, and-false}
 use lib.Dec.{nltb→le}
 use Rattle.prelude.proofs.Choices.{either, is-false}
 use Rattle.labels.specs.Membership.{endpoints, isNone, allBelow}
@@ -66,11 +66,7 @@ module _ (h : ℕ) (l : h < hosts) where
   none-above : (w a : ℕ) (b : Bool) → endpoints ≤ a → holds w a ≡ hostEndpoints h b a
   unfolding holds hostEndpoints
   none-above w a b k =
-      rw (le-ltb a endpoints k, lt-ltb h hosts l, ne-eqb a (hosts + h) (λ e. omega (arith, e, k, l)), ne-eqb a h (λ e. omega (arith, e, k, l))) (sym (go b))
-    where
-      go : (b : Bool) → not b && false ≡ false
-      go true = refl
-      go false = refl
+      rw (le-ltb a endpoints k, lt-ltb h hosts l, ne-eqb a (hosts + h) (λ e. omega (arith, e, k, l)), ne-eqb a h (λ e. omega (arith, e, k, l)), and-false)
 
   pub https-holds : (a : ℕ) → holds (https h) a ≡ hostEndpoints h true a
   unfolding rightAt

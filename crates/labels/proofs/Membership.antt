@@ -72,6 +72,14 @@ module _ (s t : Membership) where
   pub missing-most : lowestMissing s t ≤ noneMissing
   missing-most = ⊎-elim (λ none. omega (arith, none .1)) (λ one. omega (arith, one .0)) told
 
+  -- what is told otherwise is in the first set and not in the second
+  pub missing-told : (lowestMissing s t ≡ noneMissing → ⊥) → (lowestMissing s t < endpoints) × T (s (lowestMissing s t)) × T (not (t (lowestMissing s t)))
+  unfolding isLowestMissing
+  missing-told ne =
+      let m = lowestMissing s t in
+      ⊎-elim (λ none. absurd (ne (none .1)))
+      (λ one. let is = and-l (isMissing s t m) _ (one .1) in (one .0, and-l (s m) (not (t m)) is, and-r (s m) (not (t m)) is)) told
+
   -- the lowest that is missing is the one that is told
   pub lowest-is : (a : ℕ) → a < endpoints → T (isLowestMissing s t a) → lowestMissing s t ≡ a
   unfolding isLowestMissing
@@ -94,6 +102,15 @@ module _ (t : Membership) (a : ℕ) (l : a < endpoints) where
       go : (b : Bool) → isNone (cond b noneMissing a) ≡ b
       go true = refl
       go false = ne-eqb a noneMissing (λ e. omega (arith, l, e))
+
+  -- what is told otherwise is the endpoint
+  pub unheld-told : (missingOne t a ≡ noneMissing → ⊥) → (missingOne t a ≡ a) × T (not (t a))
+  unfolding missingOne
+  unheld-told = go (t a)
+    where
+      go : (b : Bool) → (cond b noneMissing a ≡ noneMissing → ⊥) → (cond b noneMissing a ≡ a) × T (not b)
+      go true ne = absurd (ne refl)
+      go false ne = (refl, tt)
 
   pub unheld-most : missingOne t a ≤ noneMissing
   unfolding missingOne

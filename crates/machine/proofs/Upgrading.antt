@@ -1,4 +1,4 @@
--- Under a well formed policy no URL that is asked for is by http at a host that is always https, so no request goes to one.
+-- Under a well formed policy a URL is asked for in place of a URL, and no URL that is asked for is by http at a host that is always https, so no request goes to one.
 use Rattle.prelude.proofs.Kit.{ℕ, _+_, arith, _&&_, Bool, not, List, ⊎-elim, sym, subst, T, eqb, ltb, eqb→eq, ltb→lt, T-not, not-T}
 use Rattle.prelude.specs.Choice.{every}
 use Rattle.prelude.proofs.Choices.{parts, joined, either, one, branch-true, branch-false}
@@ -40,8 +40,11 @@ module _ (p : List ℕ) (good : T (wellFormed p)) where
     unfolding partnerWellFormed
     has-none r = subst T (branch-false (isReplaced p u) (isPartner p u v) (eqb v noPartner) r) formed
 
+    partner-is : T (not (eqb v noPartner)) → T (isPartner p u v)
+    partner-is n = ⊎-elim has-partner (λ r. absurd (T-not (eqb v noPartner) n (has-none r))) (either (isReplaced p u))
+
     partner-kept : T (not (eqb v noPartner)) → T (not (isReplaced p v))
-    partner-kept n = ⊎-elim (λ r. partner-https u v (has-partner r)) (λ r. absurd (T-not (eqb v noPartner) n (has-none r))) (either (isReplaced p u))
+    partner-kept n = partner-https u v (partner-is n)
 
     -- there is no URL 255
     none-kept : T (eqb v noPartner) → T (not (isReplaced p u))
@@ -49,6 +52,14 @@ module _ (p : List ℕ) (good : T (wellFormed p)) where
     none-kept n =
         not-T (isReplaced p u)
         (λ r. let t = has-partner r in absurd (omega (arith, eqb→eq v noPartner n, ltb→lt v urlRows (search parts))))
+
+  -- in place of a URL a URL is asked for
+  pub upgraded-url : (u : ℕ) → T (isUrl p u) → T (isUrl p (upgraded p u))
+  unfolding upgraded isPartner
+  upgraded-url u url =
+      one (λ v. T (isUrl p v)) (ltb u urlRows && not (eqb (urlPartner p u) noPartner))
+      (λ t. let is : T (isPartner p u (urlPartner p u)) = partner-is u (search parts) (search parts) in search parts)
+      (λ _. url)
 
   -- a URL that is asked for
   url-kept : (u : ℕ) → T (isUrl p (upgraded p u)) → T (not (isReplaced p (upgraded p u)))

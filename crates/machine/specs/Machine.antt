@@ -159,13 +159,13 @@ lentRefusals p scripts s out =
     ∷ refuse (plain stateUnsound) (not (sound p s))
     ∷ []
 
+-- 8 and 9: what labels forbid, whatever the state
+abbrev pub labelRefusals : List ℕ → Event → List (Refusal Verdict)
+labelRefusals p event = forbid readersForbid (missingReader p event) ∷ forbid writersForbid (missingWriter p event) ∷ []
+
 -- 7 to 9: an event that names something
 abbrev pub judgements : List ℕ → List ℕ → Event → List (Refusal Verdict)
-judgements p s event =
-    refuse (plain notAwaited) (not (awaited s event))
-    ∷ forbid readersForbid (missingReader p event)
-    ∷ forbid writersForbid (missingWriter p event)
-    ∷ []
+judgements p s event = refuse (plain notAwaited) (not (awaited s event)) ∷ labelRefusals p event
 
 abbrev pub eventRefusals : List ℕ → List ℕ → Event → List (Refusal Verdict)
 eventRefusals p s event = refuse (plain nameUnknown) (not (named p event)) ∷ judgements p s event
