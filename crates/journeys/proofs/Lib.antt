@@ -1,0 +1,5 @@
+pub mod Judging
+pub mod Searching
+pub mod Guarantees
+pub mod Taking
+pub mod Cases

@@ -1,0 +1,5 @@
+pub mod Journey
+pub mod Legs
+pub mod Given
+pub mod Guarantees
+pub mod Cases
