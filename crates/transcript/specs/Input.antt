@@ -1,4 +1,4 @@
--- What walk reads (document 01, "Program walk"): policy words, script table, then records, each after one length byte.
+-- What walk reads (document 01, "Program walk"): policy words, script table, then records, each after one length byte. journey reads a policy so too.
 use Prim.Native.Nat.{ℕ, zero, suc, _+_, _-_, _*_}
 use mathlib.Core.Bool.{cond}
 use mathlib.Core.List.{List, [], _∷_}

@@ -50,7 +50,7 @@ fn word(bytes: &[u8], at: usize) -> u32
         + wide(bytes[at + 3])
 }
 
-// The policy's words.
+// The policy's words, for every program that reads one.
 pub fn policy_words(input: &[u8]) -> [u32; WORDS]
     requires { ⌜ policyBytes ≤ length (now input) ⌝ }
     ensures { λ r. ⌜ r ≡ policyOf (now (input .entry)) ⌝ }
