@@ -96,6 +96,11 @@
 //!
 //! With the feature `cookie`, the module `cookie` reads a Set-Cookie line: which cookie it sets, to which value, and who may read it, as the word of
 //! a policy. It needs `libcookie.a` beside `libmonitor.a`.
+//!
+//! # Journeys
+//!
+//! With the feature `journeys`, the module `journeys` finds the connection of a policy on which URLs can be visited one after another: the first
+//! loaded, each further one reached by a redirect. It needs `libjourneys.a` beside `libmonitor.a`.
 
 #![no_std]
 #![warn(missing_docs)]
@@ -103,6 +108,8 @@
 #[cfg(feature = "cookie")]
 pub mod cookie;
 mod endpoint;
+#[cfg(feature = "journeys")]
+pub mod journeys;
 #[cfg(feature = "usage")]
 pub mod usage;
 

@@ -1,0 +1,202 @@
+//! Journeys through the binding: which connection is told, partners and entries, each refusal, and that a monitor takes what is told.
+
+use std::error::Error;
+
+use zolherima::journeys::{find, Refusal, MOST_URLS};
+use zolherima::{
+    feed, ENTRY, NO_PARTNER, NO_URL, OUT_BYTES, POLICY_WORDS, SCRIPT_BYTES, STATE_WORDS,
+};
+
+const ALL: u32 = u32::MAX;
+/// Where the connections stand in a policy, and the https partners of the 64 URLs behind the word of hosts that are always https.
+const CONNECTIONS: usize = 448;
+const PARTNERS: usize = POLICY_WORDS - 64;
+const HTTPS_HOSTS: usize = PARTNERS - 1;
+
+type Policy = [u32; POLICY_WORDS];
+
+/// No URL, no host that is always https, and connections that nobody writes.
+fn empty() -> Policy {
+    let mut policy = [0; POLICY_WORDS];
+    for url in policy[..192].chunks_exact_mut(3) {
+        url.copy_from_slice(&NO_URL);
+    }
+    policy[PARTNERS..].fill(NO_PARTNER);
+    policy
+}
+
+fn set_url(policy: &mut Policy, url: usize, words: [u32; 3]) {
+    policy[3 * url..][..3].copy_from_slice(&words);
+}
+
+/// Script readers are the readers.
+fn set_connection(policy: &mut Policy, connection: usize, readers: u32, writers: u32) {
+    policy[CONNECTIONS + 3 * connection..][..3].copy_from_slice(&[readers, readers, writers]);
+}
+
+/// Document 01's policy P.
+fn small_post() -> Policy {
+    let mut policy = empty();
+    set_url(&mut policy, 0, [16, 0x10001, 0x10000]);
+    set_url(&mut policy, 1, [1, ALL, ALL]);
+    set_url(&mut policy, 2, [17, ALL, 0x30000]);
+    set_url(&mut policy, 3, [0, 0x10001, 0x10001]);
+    set_connection(&mut policy, 0, 0x10001, 0x10000);
+    set_connection(&mut policy, 1, ALL, ALL);
+    set_connection(&mut policy, 2, 0x10000, 0x10000);
+    set_connection(&mut policy, 3, 0x10001, 0x10001);
+    policy
+}
+
+/// The same, with host 0 always https: URL 0 is asked for in place of URL 3.
+fn listed_post() -> Policy {
+    let mut policy = small_post();
+    policy[HTTPS_HOSTS] = 1;
+    policy[PARTNERS + 3] = 0;
+    policy
+}
+
+#[test]
+fn the_lowest_connection_that_carries_it_is_told() {
+    let policy = small_post();
+    let journeys: [(&[u8], Option<u32>); 11] = [
+        (&[0], Some(0)),
+        (&[1], Some(1)),
+        (&[2], Some(1)),
+        (&[3], Some(3)),
+        (&[0, 0, 0], Some(0)),
+        (&[2, 1], Some(1)),
+        (&[0, 3], Some(3)),    // connection 0 fails on the last URL
+        (&[0, 0, 0, 3], None), // connection 3 on the second
+        (&[3, 0], None),
+        (&[1, 2], None),
+        (&[0, 1], None),
+    ];
+    for (journey, connection) in journeys {
+        assert_eq!(find(&policy, journey), Ok(connection), "{journey:?}");
+    }
+}
+
+#[test]
+fn each_connection_can_be_the_one() {
+    for connection in 0..32 {
+        let mut policy = empty();
+        set_url(&mut policy, 63, [31, ALL, ALL]);
+        assert_eq!(find(&policy, &[63, 63]), Ok(None));
+        set_connection(&mut policy, connection, ALL, ALL);
+        assert_eq!(find(&policy, &[63, 63]), Ok(Some(connection as u32)));
+    }
+}
+
+#[test]
+fn the_partner_is_asked_for() {
+    let (plain, listed) = (small_post(), listed_post());
+    let both = |journey: &[u8]| [&plain, &listed].map(|policy| find(policy, journey));
+    assert_eq!(both(&[3]), [Ok(Some(3)), Ok(Some(0))]);
+    assert_eq!(both(&[3, 0, 3]), [Ok(None), Ok(Some(0))]);
+    assert_eq!(both(&[0, 3]), [Ok(Some(3)), Ok(Some(0))]);
+}
+
+#[test]
+fn an_entry_may_come_from_other_writers() {
+    let mut policy = small_post();
+    assert_eq!(find(&policy, &[1, 2, 1]), Ok(None));
+    policy[3 * 2] += ENTRY;
+    assert_eq!(find(&policy, &[1, 2, 1]), Ok(Some(1)));
+}
+
+#[test]
+fn the_partner_decides_whether_it_is_an_entry() {
+    let told = |named: u32, partner: u32| {
+        let mut policy = listed_post();
+        set_connection(&mut policy, 0, 0, 0);
+        policy[3 * 3] += named;
+        policy[0] += partner;
+        find(&policy, &[3, 3])
+    };
+    assert_eq!(told(0, 0), Ok(None));
+    assert_eq!(told(ENTRY, 0), Ok(None));
+    assert_eq!(told(0, ENTRY), Ok(Some(3)));
+    assert_eq!(told(ENTRY, ENTRY), Ok(Some(3)));
+}
+
+#[test]
+fn a_journey_has_one_to_16_urls() {
+    let policy = small_post();
+    assert_eq!(find(&policy, &[]), Err(Refusal::Journey));
+    for length in 1..=MOST_URLS {
+        assert_eq!(find(&policy, &vec![0; length]), Ok(Some(0)));
+    }
+    for length in [MOST_URLS + 1, MOST_URLS + 2, 256, 257, 1000] {
+        assert_eq!(find(&policy, &vec![0; length]), Err(Refusal::Journey));
+    }
+}
+
+#[test]
+fn a_journey_has_urls_that_there_are() {
+    let policy = small_post();
+    for url in 0..=u8::MAX {
+        let is_there = url < 4;
+        assert_eq!(find(&policy, &[url]).is_ok(), is_there, "{url}");
+        for at in 0..MOST_URLS {
+            let mut journey = [0; MOST_URLS];
+            journey[at] = url;
+            let refusal = find(&policy, &journey).err();
+            assert_eq!(refusal, (!is_there).then_some(Refusal::Journey), "{url}");
+        }
+    }
+}
+
+#[test]
+fn the_policy_is_asked_about_first() {
+    let policy = small_post();
+    let longer = [&policy[..], &[0]].concat();
+    for bad in [&policy[..0], &policy[..POLICY_WORDS - 1], &longer] {
+        assert_eq!(find(bad, &[0]), Err(Refusal::Policy));
+        assert_eq!(find(bad, &[]), Err(Refusal::Policy));
+    }
+    let mut bad = policy;
+    bad[1] = 0x10000; // without its event endpoint
+    assert_eq!(find(&bad, &[0]), Err(Refusal::Policy));
+    assert_eq!(find(&bad, &[64]), Err(Refusal::Policy));
+    assert_eq!(find(&[0; POLICY_WORDS], &[0]), Err(Refusal::Policy));
+}
+
+#[test]
+fn a_refusal_has_its_number_and_its_words() {
+    assert_eq!(Refusal::LIST.map(Refusal::number), [2, 17]);
+    for refusal in Refusal::LIST {
+        let error: Box<dyn Error> = Box::new(refusal);
+        assert!(error.to_string().len() > 10, "{error}");
+    }
+    let words = "the policy has the wrong length or is not well formed";
+    assert_eq!(Refusal::Policy.to_string(), words);
+}
+
+/// Whether a monitor with an empty state takes the journey on a connection: a load, and redirects that name the URL that is held.
+fn takes(policy: &Policy, journey: &[u8], connection: u8) -> bool {
+    let scripts = [0; SCRIPT_BYTES];
+    let (mut state, mut out) = ([0; STATE_WORDS], [0; OUT_BYTES]);
+    journey.iter().enumerate().all(|(place, &url)| {
+        let held = state[144 + usize::from(connection)] as u8;
+        let redirect = [0x23, held, connection, url];
+        let load = [0x03, url, connection];
+        let record: &[u8] = if place == 0 { &load } else { &redirect };
+        feed(policy, &scripts, &mut state, record, &mut out).is_ok()
+    })
+}
+
+#[test]
+fn a_monitor_takes_what_is_told_and_nothing_below() {
+    for policy in [small_post(), listed_post()] {
+        for journey in 0..256u32 {
+            let journey = [0, 2, 4, 6].map(|at| (journey >> at & 3) as u8);
+            for length in 1..=journey.len() {
+                let journey = &journey[..length];
+                let lowest = (0..32).find(|&connection| takes(&policy, journey, connection));
+                let told = find(&policy, journey);
+                assert_eq!(told, Ok(lowest.map(u32::from)), "{journey:?}");
+            }
+        }
+    }
+}
