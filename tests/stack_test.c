@@ -1,7 +1,7 @@
-/* Links libmonitor.a, libusage.a and libcookie.a: how much stack one call takes. The call runs on a stack of its own that was painted before, so
- * that what it wrote is seen afterwards; the same call of a function that does nothing is taken off. Printed for the calls that could take most: the
- * largest output, the longest script, everything that is refused, lists that are counted, lines that are read; and bounded, so that it is seen where
- * it grows. */
+/* Links libmonitor.a, libusage.a, libcookie.a and libjourneys.a: how much stack one call takes. The call runs on a stack of its own that was painted
+ * before, so that what it wrote is seen afterwards; the same call of a function that does nothing is taken off. Printed for the calls that could take
+ * most: the largest output, the longest script, everything that is refused, lists that are counted, lines that are read, journeys that are carried
+ * or not; and bounded, so that it is seen where it grows. */
 #define _XOPEN_SOURCE 700
 #include <stdbool.h>
 #include <stdio.h>
@@ -10,6 +10,7 @@
 #include <ucontext.h>
 
 #include "cookie.h"
+#include "journeys.h"
 #include "monitor.h"
 #include "usage.h"
 
@@ -21,6 +22,7 @@ enum { URLS = 64, PARTNERS = MONITOR_POLICY_WORDS - URLS, HTTPS_HOSTS = PARTNERS
 typedef void calls(void);
 typedef struct usage_tally counts(const uint8_t *, size_t);
 typedef struct cookie_imported imports(uint32_t, const uint8_t *, size_t, const uint8_t *, size_t);
+typedef struct journey_found finds(const uint32_t *, size_t, const uint8_t *, size_t);
 typedef struct monitor_answer feeds(const uint32_t *, size_t, const uint8_t *, size_t, uint32_t *, size_t, const uint8_t *, size_t, uint8_t *, size_t);
 
 static uint8_t stack[STACK_BYTES];
@@ -33,6 +35,10 @@ static struct cookie_imported imported;
 static const uint8_t names[COOKIE_NAMES_BYTES] = "sid";
 static uint8_t line[LINE_BYTES];
 static uint32_t host;
+static finds *finder;
+static struct journey_found found;
+static uint8_t urls[JOURNEY_MOST_URLS + 1];
+static size_t policy_words, journey_urls;
 static uint32_t policy[MONITOR_POLICY_WORDS], state[MONITOR_STATE_WORDS];
 static uint8_t scripts[MONITOR_SCRIPT_BYTES], out[MONITOR_OUT_BYTES], record[MONITOR_LONGEST_RECORD];
 static size_t state_words, record_bytes, out_bytes;
@@ -57,6 +63,12 @@ static struct cookie_imported imports_nothing(uint32_t h, const uint8_t *n, size
     return (struct cookie_imported){.number = 0};
 }
 
+static struct journey_found finds_nothing(const uint32_t *p, size_t pn, const uint8_t *u, size_t un)
+{
+    (void)p, (void)pn, (void)u, (void)un;
+    return (struct journey_found){.number = 0};
+}
+
 static void count(void)
 {
     tally = counter(record, record_bytes);
@@ -65,6 +77,11 @@ static void count(void)
 static void import(void)
 {
     imported = importer(host, names, sizeof names, line, sizeof line);
+}
+
+static void find(void)
+{
+    found = finder(policy, policy_words, urls, journey_urls);
 }
 
 static void feed(void)
@@ -190,6 +207,19 @@ static void measure_import(const char *name, const char *front, const char *piec
     }
 }
 
+static void measure_find(const char *name, uint32_t number, uint32_t connection)
+{
+    finder = finds_nothing;
+    size_t around = depth(find);
+    finder = journey_find;
+    find(); /* as above */
+    bound(name, depth(find) - around, MOST);
+    if (found.number != number || found.connection != connection) {
+        fprintf(stderr, "stack: %s: answered %u %u\n", name, found.number, found.connection);
+        exit(EXIT_FAILURE);
+    }
+}
+
 static void feeds_and_counts(void)
 {
     respond(SENDS);
@@ -232,9 +262,30 @@ static void lines(void)
     measure_import("a line of a host that there is not", "", " ", COOKIE_HOST_UNKNOWN);
 }
 
+/* Of as many URLs as may be, which every connection carries, until the last URL lacks a writer. */
+static void journeys(void)
+{
+    everything();
+    policy_words = MONITOR_POLICY_WORDS;
+    journey_urls = JOURNEY_MOST_URLS;
+    for (uint8_t place = 0; place < JOURNEY_MOST_URLS; place++) {
+        urls[place] = place;
+    }
+    measure_find("a journey that connection 0 carries", JOURNEY_ACCEPTED, 0);
+    policy[3 * (JOURNEY_MOST_URLS - 1) + 2] = UINT32_MAX >> 1;
+    measure_find("a journey that no connection carries", JOURNEY_ACCEPTED, JOURNEY_NO_CONNECTION);
+    urls[JOURNEY_MOST_URLS - 1] = URLS;
+    measure_find("a journey to a URL that there is not", JOURNEY_BAD, 0);
+    journey_urls = JOURNEY_MOST_URLS + 1;
+    measure_find("a journey that is too long", JOURNEY_BAD, 0);
+    policy_words = 0;
+    measure_find("a journey under a policy of no words", JOURNEY_POLICY_BAD, 0);
+}
+
 int main(void)
 {
     feeds_and_counts();
     lines();
+    journeys();
     return EXIT_SUCCESS;
 }

@@ -1,5 +1,5 @@
-//! Measures the proved libraries beside plain Rust: `feed_fast`, the same function tuned by hand, `tally_fast`, the same count in one pass, and
-//! `import_fast`, the same reading of a Set-Cookie line.
+//! Measures the proved libraries beside plain Rust: `feed_fast`, the same function tuned by hand, `tally_fast`, the same count in one pass,
+//! `import_fast`, the same reading of a Set-Cookie line, and `journey_find_fast`, the same search for a connection.
 //!
 //! Prints what it measured. With `--write FOLDER` it also puts the tables into FOLDER/PERFORMANCE.md, between the two lines that mark their
 //! place, and writes the charts beside it.
@@ -7,6 +7,7 @@
 mod chart;
 mod growth;
 mod import;
+mod journey;
 mod report;
 mod tally;
 mod timing;

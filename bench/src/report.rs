@@ -6,6 +6,7 @@ use std::process::Command;
 
 use crate::growth::{self, Growth};
 use crate::import;
+use crate::journey;
 use crate::tally;
 use crate::timing::{measure as time, Times};
 use crate::workload::{self, Session, Workload};
@@ -28,6 +29,7 @@ pub struct Measured {
     pub lists: Vec<tally::Row>,
     pub lines: Vec<import::Row>,
     pub line_growth: Vec<Growth>,
+    pub journeys: Vec<journey::Row>,
 }
 
 /// What a call costs that is refused after number 2, after number 4, and the mean of the session.
@@ -54,6 +56,7 @@ pub fn measure(rounds: usize) -> Measured {
         lists: tally::all(rounds),
         lines: import::all(rounds),
         line_growth: import::growth(rounds),
+        journeys: journey::all(rounds),
     }
 }
 
@@ -93,7 +96,8 @@ pub fn tables(measured: &Measured) -> String {
         })
         .and_then(|()| list_table(&mut text, &measured.lists))
         .and_then(|()| line_table(&mut text, &measured.lines))
-        .and_then(|()| line_growth_tables(&mut text, &measured.line_growth));
+        .and_then(|()| line_growth_tables(&mut text, &measured.line_growth))
+        .and_then(|()| journey_table(&mut text, &measured.journeys));
     written.expect("a string can be written to");
     text
 }
@@ -230,20 +234,8 @@ fn list_table(text: &mut String, rows: &[tally::Row]) -> std::fmt::Result {
 
 fn line_table(text: &mut String, rows: &[import::Row]) -> std::fmt::Result {
     writeln!(text, "Nanoseconds for one Set-Cookie line.\n")?;
-    writeln!(
-        text,
-        "| Line | bytes | `import` | `import_fast` | ratio |\n|---|--:|--:|--:|--:|"
-    )?;
-    for row in rows {
-        let Times { proved, by_hand } = row.times;
-        let ratio = row.times.ratio();
-        writeln!(
-            text,
-            "| {} | {:.0} | {proved:.1} | {by_hand:.1} | {ratio:.2} |",
-            row.name, row.bytes
-        )?;
-    }
-    writeln!(text)
+    let rows = rows.iter().map(|row| (row.name, row.bytes, &row.times));
+    sized_table(text, ["Line", "bytes", "import", "import_fast"], rows)
 }
 
 fn line_growth_tables(text: &mut String, all: &[Growth]) -> std::fmt::Result {
@@ -253,4 +245,36 @@ fn line_growth_tables(text: &mut String, all: &[Growth]) -> std::fmt::Result {
     )?;
     all.iter()
         .try_for_each(|growth| growth_table(text, growth, ["import", "import_fast"]))
+}
+
+fn journey_table(text: &mut String, rows: &[journey::Row]) -> std::fmt::Result {
+    writeln!(
+        text,
+        "Nanoseconds for the search of a connection for one journey.\n"
+    )?;
+    let rows = rows
+        .iter()
+        .map(|row| (row.name, row.urls as f64, &row.times));
+    sized_table(text, ["Journey", "URLs", "find", "journey_find_fast"], rows)
+}
+
+/// What each of some things of a size costs, by both functions.
+fn sized_table<'a>(
+    text: &mut String,
+    [what, size, proved, by_hand]: [&str; 4],
+    rows: impl Iterator<Item = (&'a str, f64, &'a Times)>,
+) -> std::fmt::Result {
+    writeln!(
+        text,
+        "| {what} | {size} | `{proved}` | `{by_hand}` | ratio |\n|---|--:|--:|--:|--:|"
+    )?;
+    for (name, size, times) in rows {
+        let Times { proved, by_hand } = times;
+        let ratio = times.ratio();
+        writeln!(
+            text,
+            "| {name} | {size:.0} | {proved:.1} | {by_hand:.1} | {ratio:.2} |"
+        )?;
+    }
+    writeln!(text)
 }

@@ -1,5 +1,5 @@
 //! Random calls of the monitor, for the tests and the benchmark: policies, script tables, states, records, and damage to each; lists of
-//! requests; Set-Cookie lines; and what the tests share to lend them and to tell what came of it.
+//! requests; Set-Cookie lines; journeys; and what the tests share to lend them and to tell what came of it.
 //!
 //! Everything comes from a seed and from nothing else, so a case is found again by its seed and its number. What is made here is only
 //! input: no test takes an expected result from this crate. It knows the rules of labels all the same, since records made at random
@@ -10,6 +10,7 @@ pub mod damage;
 pub mod difference;
 pub mod events;
 pub mod guarded;
+pub mod journey;
 pub mod labels;
 pub mod line;
 pub mod list;

@@ -10,12 +10,12 @@ use crate::layout::*;
 use crate::numbers::*;
 use crate::Answer;
 
-type Policy = [u32; POLICY_WORDS];
+pub type Policy = [u32; POLICY_WORDS];
 type State = [u32; STATE_WORDS];
 type Output = [u8; OUTPUT_BYTES];
 
 /// Address word, readers, writers.
-type UrlRow = [u32; 3];
+pub type UrlRow = [u32; 3];
 /// Readers, script readers, writers.
 type ConnectionRow = [u32; 3];
 
@@ -80,7 +80,7 @@ fn judge(
 }
 
 #[inline(always)]
-fn url_row(policy: &Policy, number: u32) -> UrlRow {
+pub fn url_row(policy: &Policy, number: u32) -> UrlRow {
     let place = 3 * (number as usize % URLS);
     [policy[place], policy[place + 1], policy[place + 2]]
 }
@@ -88,13 +88,13 @@ fn url_row(policy: &Policy, number: u32) -> UrlRow {
 /// The address of an address word: an entry's has one bit more. A word of no URL
 /// keeps a bit that no address has.
 #[inline(always)]
-fn address_of(word: u32) -> u32 {
+pub fn address_of(word: u32) -> u32 {
     word & !ENTRY
 }
 
 /// The host of an address word: its lowest bits.
 #[inline(always)]
-fn host_of(word: u32) -> u32 {
+pub fn host_of(word: u32) -> u32 {
     word % HOSTS as u32
 }
 
@@ -102,7 +102,7 @@ fn host_of(word: u32) -> u32 {
 /// writers, and for an entry all endpoints. Without a branch, since which it is
 /// could not be foreseen.
 #[inline(always)]
-fn admitted(&[word, _, writers]: &UrlRow) -> u32 {
+pub fn admitted(&[word, _, writers]: &UrlRow) -> u32 {
     writers | (word / ENTRY % 2).wrapping_neg()
 }
 
@@ -146,7 +146,7 @@ fn holds(set: u32, endpoint: u32) -> bool {
 
 /// The set of one endpoint.
 #[inline(always)]
-fn only(endpoint: u32) -> u32 {
+pub fn only(endpoint: u32) -> u32 {
     1 << (endpoint % ADDRESSES)
 }
 
@@ -167,7 +167,7 @@ fn pair(low: u32, high: u32) -> u64 {
 /// their branches fall through and cost less than folding the results. Eight
 /// empty rows are tried together.
 #[inline(always)]
-fn urls_well_formed(policy: &Policy) -> Option<bool> {
+pub fn urls_well_formed(policy: &Policy) -> Option<bool> {
     let mut some_empty = false;
     let (rows, _) = policy[..POLICY_COOKIES].as_chunks::<3>();
     for rows in rows.as_chunks::<8>().0 {
@@ -218,7 +218,7 @@ fn all_used_or_empty(rows: &[UrlRow; 8]) -> bool {
 
 /// Number 2, the connections: script readers within readers.
 #[inline(always)]
-fn connections_well_formed(policy: &Policy) -> bool {
+pub fn connections_well_formed(policy: &Policy) -> bool {
     let (rows, _) = policy[POLICY_CONNECTIONS..POLICY_HTTPS_HOSTS].as_chunks::<3>();
     let mut stray = 0;
     for &[readers, script_readers, _] in rows {
@@ -230,7 +230,7 @@ fn connections_well_formed(policy: &Policy) -> bool {
 /// Number 2, the https hosts and the partners. Without such a host no row has
 /// a partner, which is tried for all rows together.
 #[inline(always)]
-fn partners_well_formed(policy: &Policy) -> bool {
+pub fn partners_well_formed(policy: &Policy) -> bool {
     let hosts = policy[POLICY_HTTPS_HOSTS];
     if hosts != 0 {
         return hosts < 1 << HOSTS && each_partner_well_formed(policy, hosts);

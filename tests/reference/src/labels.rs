@@ -48,16 +48,16 @@ pub fn check(conditions: &[Condition]) -> Result<(), Forbidden> {
 pub fn conditions(record: &Record, policy: &Policy) -> Vec<Condition> {
     let tag = policy.connection(record.connection);
     match record.kind {
-        Kind::Load => load(tag, policy.known_url(record.url)),
-        Kind::Redirect => redirect(tag, policy.known_url(record.target)),
+        Kind::Load => load(tag, policy.known_url(record.url)).into(),
+        Kind::Redirect => redirect(tag, policy.known_url(record.target)).into(),
         Kind::Response(_) => Vec::new(),
     }
 }
 
 /// The connection's readers are within the URL's readers; the URL's message
 /// endpoint is in the connection's writers.
-fn load(tag: &ConnectionTag, url: &Url) -> Vec<Condition> {
-    vec![
+pub fn load(tag: &ConnectionTag, url: &Url) -> [Condition; 2] {
+    [
         readers(Event::ReadersLoad, tag.readers_missing(url)),
         writers(Event::WritersLoad, tag.message_missing(url)),
     ]
@@ -66,8 +66,8 @@ fn load(tag: &ConnectionTag, url: &Url) -> Vec<Condition> {
 /// The target's event endpoint is in the connection's readers, and these are
 /// within the target's readers; its message endpoint is in the connection's
 /// writers, and the target admits these.
-fn redirect(tag: &ConnectionTag, target: &Url) -> Vec<Condition> {
-    vec![
+pub fn redirect(tag: &ConnectionTag, target: &Url) -> [Condition; 4] {
+    [
         readers(Event::ReadersRedirectEvent, tag.event_missing(target)),
         readers(Event::ReadersRedirect, tag.readers_missing(target)),
         writers(Event::WritersRedirectMessage, tag.message_missing(target)),

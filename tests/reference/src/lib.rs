@@ -6,7 +6,9 @@
 //! program walk. [`tally`] counts the requests of a list, [`tally_fast`] does
 //! the same in one pass, and [`tally_text`] is the program tally. [`import`]
 //! reads a Set-Cookie line, [`import_fast`] does the same in one pass, and
-//! [`import_text`] is the program import.
+//! [`import_text`] is the program import. [`journey_find`] finds a connection
+//! for a journey, [`journey_find_fast`] does the same with one question for
+//! each connection, and [`journey_text`] is the program journey.
 
 #![forbid(unsafe_code)]
 
@@ -21,6 +23,14 @@ mod import_notes;
 mod import_seen;
 mod import_text;
 mod interpreter;
+mod journey;
+mod journey_change_notes;
+mod journey_fast;
+mod journey_notes;
+mod journey_refusal_notes;
+mod journey_seen;
+mod journey_stops;
+mod journey_text;
 mod kind;
 mod labels;
 pub mod layout;
@@ -48,6 +58,13 @@ pub use import::{
 pub use import_fast::import_fast;
 pub use import_seen::{ImportEvent, ImportSeen};
 pub use import_text::{host_of, import_text, names_of};
+pub use journey::{
+    first_failure, journey_find, journey_noting, Failure, Found, JOURNEY_BAD, JOURNEY_URLS,
+    NO_CONNECTION,
+};
+pub use journey_fast::journey_find_fast;
+pub use journey_seen::{JourneyEvent, JourneySeen};
+pub use journey_text::{journey_text, urls_of};
 pub use monitor::{feed, feed_noting};
 pub use seen::{Event, Seen};
 pub use tally::{tally, tally_noting, tally_text, Tally, LIST_BAD, LIST_BYTES};

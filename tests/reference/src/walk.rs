@@ -29,7 +29,7 @@ pub fn walk(input: &[u8]) -> String {
 }
 
 /// Four bytes, most significant first.
-fn read_word(bytes: &[u8]) -> u32 {
+pub fn read_word(bytes: &[u8]) -> u32 {
     bytes
         .iter()
         .fold(0, |word, &byte| word << 8 | u32::from(byte))

@@ -3,9 +3,10 @@
 use cases::line::{self, Given, Line};
 use cases::{names, Random};
 use programs::input::Parts;
+use programs::run::Run;
 use reference::{NAMES_BYTES, NAME_BYTES};
 
-use crate::run::Run;
+use crate::run;
 
 pub enum Input {
     /// For the library.
@@ -176,13 +177,13 @@ impl Kind {
     fn runs(self, random: &Random) -> Vec<Run> {
         let few = |make: fn(&Random) -> Run| (0..FEW).map(|_| make(random)).collect();
         match self {
-            Kind::Lines => vec![Run::of_lines(random)],
-            Kind::OddArguments => few(Run::of_odd_arguments),
-            Kind::BadArguments => few(Run::of_bad_arguments),
-            Kind::LineEnds => few(Run::of_line_ends),
-            Kind::RunBytes => vec![Run::of_bytes(random)],
-            Kind::LongestInput => vec![Run::longest(random)],
-            Kind::LongInput => vec![Run::long(random)],
+            Kind::Lines => vec![run::of_lines(random)],
+            Kind::OddArguments => few(run::of_odd_arguments),
+            Kind::BadArguments => few(run::of_bad_arguments),
+            Kind::LineEnds => few(run::of_line_ends),
+            Kind::RunBytes => vec![run::of_bytes(random)],
+            Kind::LongestInput => vec![run::longest(random)],
+            Kind::LongInput => vec![run::long(random)],
             _ => Vec::new(),
         }
     }

@@ -15,12 +15,12 @@ use cases::line::Given;
 use cases::{events, Random};
 use programs::counts::Column;
 use programs::program::{self, Arrival, Program};
-use programs::{suite, verdict, Checked, Suite};
+use programs::run::left_out;
+use programs::{suite, Checked, Suite};
 use reference::{Imported, HOST_UNKNOWN, NO_KEY, NO_NAME, NO_NUMBER};
 
 use checker::{Checker, Compared};
 use input::{Input, Kind};
-use run::Run;
 
 /// The numbers that have a column; the last column tells how many inputs went to the program.
 const NUMBERS: [u32; 5] = [0, HOST_UNKNOWN, NO_NAME, NO_KEY, NO_NUMBER];
@@ -70,8 +70,12 @@ impl Suite for Imports {
     fn check(&mut self, input: &Input, draw: Draw) -> io::Result<Checked> {
         match (input, &self.program) {
             (Input::Line(given), _) => Ok(self.check_line(given, &Random::new(draw.place))),
-            (Input::Run(run), Some(program)) => check_run(run, program, draw.arrival),
-            (Input::Run(_), None) => Ok(left_out()),
+            (Input::Run(run), Some(program)) => {
+                let printed = run::printed(run);
+                let lines = printed.iter().flat_map(|text| text.lines()).count() as u64;
+                run.check(printed, lines, TO_IMPORT, program, draw.arrival)
+            }
+            (Input::Run(_), None) => Ok(left_out(TO_IMPORT)),
         }
     }
 
@@ -100,37 +104,6 @@ impl Imports {
             records: 1,
             more: [&counted[..], &[0]].concat(),
         }
-    }
-}
-
-/// Of lines for the program.
-fn check_run(run: &Run, program: &Program, arrival: Arrival) -> io::Result<Checked> {
-    let ran = program(&run.arguments, &run.input, arrival)?;
-    let printed = run.printed();
-    let verdict = match &printed {
-        Some(expected) => verdict::judge(expected, &ran),
-        None => verdict::judge_complaint(&ran),
-    };
-    let expected = printed.unwrap_or_default();
-    let mut more = vec![0; TO_IMPORT + 1];
-    more[TO_IMPORT] = 1;
-    Ok(Checked {
-        verdict,
-        records: expected.lines().count() as u64,
-        expected,
-        found: ran.stdout,
-        more,
-    })
-}
-
-/// Of lines for the program, where it is not tested.
-fn left_out() -> Checked {
-    Checked {
-        verdict: Ok(()),
-        expected: String::new(),
-        found: Vec::new(),
-        records: 0,
-        more: vec![0; TO_IMPORT + 1],
     }
 }
 

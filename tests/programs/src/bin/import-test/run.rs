@@ -3,13 +3,8 @@
 use cases::line;
 use cases::names::{self, letters, name_in, other_case};
 use cases::Random;
+use programs::run::Run;
 use reference::{IMPORT_BYTES as LONGEST, NAME_BYTES};
-
-pub struct Run {
-    /// The host and the names of keys. None of them has a zero byte.
-    pub arguments: Vec<Vec<u8>>,
-    pub input: Vec<u8>,
-}
 
 /// Hosts that are no numbers.
 const BAD_HOSTS: [&[u8]; 12] = [
@@ -63,100 +58,98 @@ const SHORT_LINES: [&[u8]; 10] = [
 ];
 const LINE_ENDS: [&[u8]; 7] = [b"\n", b"\n", b"\n", b"\n", b"\r\n", b"\r\n", b"\r\r\n"];
 
-impl Run {
-    /// What the program should print; nothing where it should complain.
-    pub fn printed(&self) -> Option<String> {
-        let (host, names) = self.arguments.split_first()?;
-        let names: Vec<&[u8]> = names.iter().map(Vec::as_slice).collect();
-        let (host, names) = (reference::host_of(host)?, reference::names_of(&names)?);
-        let fits = self.input.len() <= LONGEST;
-        fits.then(|| reference::import_text(host, &names, &self.input))
-    }
+/// What the program should print; nothing where it should complain.
+pub fn printed(run: &Run) -> Option<String> {
+    let (host, names) = run.arguments.split_first()?;
+    let names: Vec<&[u8]> = names.iter().map(Vec::as_slice).collect();
+    let (host, names) = (reference::host_of(host)?, reference::names_of(&names)?);
+    let fits = run.input.len() <= LONGEST;
+    fits.then(|| reference::import_text(host, &names, &run.input))
+}
 
-    /// Good arguments, and lines of every sort.
-    pub fn of_lines(random: &Random) -> Run {
-        let names = names::table(random);
-        Run {
-            arguments: arguments(&names, random),
-            input: lines(random.within(1..=100), &names, random),
+/// Good arguments, and lines of every sort.
+pub fn of_lines(random: &Random) -> Run {
+    let names = names::table(random);
+    Run {
+        arguments: arguments(&names, random),
+        input: lines(random.within(1..=100), &names, random),
+    }
+}
+
+/// Hosts and names as the arguments may have them, but rarely do.
+pub fn of_odd_arguments(random: &Random) -> Run {
+    let names = names::table(random);
+    let mut arguments = arguments(&names, random);
+    let host = line::any_host(random);
+    let width = random.within(1..=10);
+    arguments[0] = format!("{host:0width$}").into();
+    arguments.truncate(random.within(2..=arguments.len()));
+    let name = 1 + random.below(arguments.len() - 1);
+    arguments[name] = random.pick(&ODD_NAMES).to_vec();
+    Run {
+        arguments,
+        input: lines(random.within(1..=8), &names, random),
+    }
+}
+
+/// Arguments that are none: too few, too many, a host that is no number, a name that is too long. Now and then the host is one after all.
+pub fn of_bad_arguments(random: &Random) -> Run {
+    let mut run = of_lines(random);
+    let last = run.arguments.len() - 1;
+    match random.below(6) {
+        0 => run.arguments.truncate(random.below(2)),
+        1 => run
+            .arguments
+            .resize(random.within(10..=20), b"sid".to_vec()),
+        2 => run.arguments[last] = letters(random.pick(&[17, 18, 32, 300]), random),
+        3 => run.arguments[0] = without_zeros(line::no_number(random)),
+        _ => run.arguments[0] = random.pick(&BAD_HOSTS).to_vec(),
+    }
+    run
+}
+
+/// Few lines, or none, many of them empty.
+pub fn of_line_ends(random: &Random) -> Run {
+    let line = |_| random.pick(&SHORT_LINES).to_vec();
+    Run {
+        arguments: vec![b"1".to_vec(), b"sid".to_vec()],
+        input: ended((0..random.below(6)).map(line), random),
+    }
+}
+
+/// Bytes of all values or of few.
+pub fn of_bytes(random: &Random) -> Run {
+    let mut run = of_lines(random);
+    run.input = line::bytes(random.pick(&[8, 100, 5_000]), random);
+    run
+}
+
+/// As many bytes as may be read, or one less.
+pub fn longest(random: &Random) -> Run {
+    of_length(LONGEST - random.below(2), random)
+}
+
+/// More bytes than may be read.
+pub fn long(random: &Random) -> Run {
+    let more = random.pick(&[1, 1, 2, 4_096, random.within(1..=2 * LONGEST)]);
+    of_length(LONGEST + more, random)
+}
+
+/// One line over and over, or a single one. That each byte is a line is rare, since then much is printed.
+fn of_length(bytes: usize, random: &Random) -> Run {
+    let names = names::table(random);
+    let mut line = line::any(&names, random);
+    let piece: &[u8] = match random.below(16) {
+        0 => b"\n",
+        1..=4 => random.pick(&[b";".as_slice(), b" ", b"x", b"; Secure", b"="]),
+        _ => {
+            line.extend(b"; Path=/; Domain=a.example; Max-Age=3600; SameSite=Lax\n");
+            &line
         }
-    }
-
-    /// Hosts and names as the arguments may have them, but rarely do.
-    pub fn of_odd_arguments(random: &Random) -> Run {
-        let names = names::table(random);
-        let mut arguments = arguments(&names, random);
-        let host = line::any_host(random);
-        let width = random.within(1..=10);
-        arguments[0] = format!("{host:0width$}").into();
-        arguments.truncate(random.within(2..=arguments.len()));
-        let name = 1 + random.below(arguments.len() - 1);
-        arguments[name] = random.pick(&ODD_NAMES).to_vec();
-        Run {
-            arguments,
-            input: lines(random.within(1..=8), &names, random),
-        }
-    }
-
-    /// Arguments that are none: too few, too many, a host that is no number, a name that is too long. Now and then the host is one after all.
-    pub fn of_bad_arguments(random: &Random) -> Run {
-        let mut run = Run::of_lines(random);
-        let last = run.arguments.len() - 1;
-        match random.below(6) {
-            0 => run.arguments.truncate(random.below(2)),
-            1 => run
-                .arguments
-                .resize(random.within(10..=20), b"sid".to_vec()),
-            2 => run.arguments[last] = letters(random.pick(&[17, 18, 32, 300]), random),
-            3 => run.arguments[0] = without_zeros(line::no_number(random)),
-            _ => run.arguments[0] = random.pick(&BAD_HOSTS).to_vec(),
-        }
-        run
-    }
-
-    /// Few lines, or none, many of them empty.
-    pub fn of_line_ends(random: &Random) -> Run {
-        let line = |_| random.pick(&SHORT_LINES).to_vec();
-        Run {
-            arguments: vec![b"1".to_vec(), b"sid".to_vec()],
-            input: ended((0..random.below(6)).map(line), random),
-        }
-    }
-
-    /// Bytes of all values or of few.
-    pub fn of_bytes(random: &Random) -> Run {
-        let mut run = Run::of_lines(random);
-        run.input = line::bytes(random.pick(&[8, 100, 5_000]), random);
-        run
-    }
-
-    /// As many bytes as may be read, or one less.
-    pub fn longest(random: &Random) -> Run {
-        Run::of_length(LONGEST - random.below(2), random)
-    }
-
-    /// More bytes than may be read.
-    pub fn long(random: &Random) -> Run {
-        let more = random.pick(&[1, 1, 2, 4_096, random.within(1..=2 * LONGEST)]);
-        Run::of_length(LONGEST + more, random)
-    }
-
-    /// One line over and over, or a single one. That each byte is a line is rare, since then much is printed.
-    fn of_length(bytes: usize, random: &Random) -> Run {
-        let names = names::table(random);
-        let mut line = line::any(&names, random);
-        let piece: &[u8] = match random.below(16) {
-            0 => b"\n",
-            1..=4 => random.pick(&[b";".as_slice(), b" ", b"x", b"; Secure", b"="]),
-            _ => {
-                line.extend(b"; Path=/; Domain=a.example; Max-Age=3600; SameSite=Lax\n");
-                &line
-            }
-        };
-        Run {
-            arguments: arguments(&names, random),
-            input: line::long(&line::any(&names, random), piece, b"", bytes),
-        }
+    };
+    Run {
+        arguments: arguments(&names, random),
+        input: line::long(&line::any(&names, random), piece, b"", bytes),
     }
 }
 
