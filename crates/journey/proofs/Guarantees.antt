@@ -14,7 +14,7 @@ use Rattle.journeys.specs.Legs.{firstForbidden}
 use Rattle.journeys.proofs.Judging.{readers-forbid, writers-forbid, nothing-forbids, judged-load, judged-redirect, asked-url}
 use Rattle.journeys.proofs.Guarantees.{asked-given, fails-where, not-taken-where}
 use Rattle.journey.specs.Report.{ofUrl}
-use Rattle.journey.specs.Guarantees.{namedSet, ownSet, askedFor, NamedSetLacksIt}
+use Rattle.journey.specs.Guarantees.{connectionSet, askedFor, namedSet, NamedSetLacksIt}
 
 -- an endpoint that a set lacks: the URL's, where the connection's has it, or the connection's, where it is the one that is asked for
 abbrev Lacks : ℕ → ℕ → ℕ → Bool → ℕ → Type 0
@@ -96,7 +96,7 @@ module _ (p : List ℕ) (c u : ℕ) (there : Url p u) where
   Named v =
       (v .missing < endpoints)
       × T (not (holds (namedSet p c u v) (v .missing)))
-      × T (cond (ofUrl p c u v) (holds (ownSet p c v) (v .missing)) (eqb (v .missing) (askedFor p u v)))
+      × T (cond (ofUrl p c u v) (holds (connectionSet p c v) (v .missing)) (eqb (v .missing) (askedFor p u v)))
 
   verdict-lacks : (reader writer : ℕ) (v : Verdict) → v ≡ firstForbidden reader writer → (v .number ≡ accepted → ⊥)
       → ((reader ≡ noneMissing → ⊥) → ReadersLack reader) → ((writer ≡ noneMissing → ⊥) → WritersLack writer) → Named v

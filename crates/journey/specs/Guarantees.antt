@@ -12,19 +12,19 @@ use Rattle.journeys.specs.Journey.{urlAt, judged, carries, failsAt}
 use Rattle.journeys.specs.Guarantees.{Asked}
 use Rattle.journey.specs.Report.{ofUrl}
 
--- the readers or the writers, of a URL or of a connection
-abbrev pub namedSet : List ℕ → ℕ → ℕ → Verdict → ℕ
-namedSet p c u v =
-    cond (eqb (v .number) readersForbid)
-    (cond (ofUrl p c u v) (urlReaders p u) (connectionReaders p c))
-    (cond (ofUrl p c u v) (urlWriters p u) (connectionWriters p c))
+-- the readers by 8 and the writers by 9, of a URL and of a connection; and the endpoint of the URL for which the connection's are asked
+abbrev pub urlSet : List ℕ → ℕ → Verdict → ℕ
+urlSet p u v = cond (eqb (v .number) readersForbid) (urlReaders p u) (urlWriters p u)
 
--- the connection's own, and the endpoint of a URL for which they are asked
-abbrev pub ownSet : List ℕ → ℕ → Verdict → ℕ
-ownSet p c v = cond (eqb (v .number) readersForbid) (connectionReaders p c) (connectionWriters p c)
+abbrev pub connectionSet : List ℕ → ℕ → Verdict → ℕ
+connectionSet p c v = cond (eqb (v .number) readersForbid) (connectionReaders p c) (connectionWriters p c)
 
 abbrev pub askedFor : List ℕ → ℕ → Verdict → ℕ
 askedFor p u v = cond (eqb (v .number) readersForbid) (urlEvent p u) (urlMessage p u)
+
+-- the set that is named
+abbrev pub namedSet : List ℕ → ℕ → ℕ → Verdict → ℕ
+namedSet p c u v = cond (ofUrl p c u v) (urlSet p u v) (connectionSet p c v)
 
 -- Of each connection that does not carry a journey, the line names an endpoint, 0 to 31, and a set that lacks it: of the connection, or of the URL
 -- that is asked for at the first place that it does not take. It is the URL's set where the connection's has the endpoint, and the connection's where
@@ -37,4 +37,4 @@ NamedSetLacksIt =
     let u = urlAt p urls i in
     (v .missing < endpoints)
     × T (not (holds (namedSet p c u v) (v .missing)))
-    × T (cond (ofUrl p c u v) (holds (ownSet p c v) (v .missing)) (eqb (v .missing) (askedFor p u v)))
+    × T (cond (ofUrl p c u v) (holds (connectionSet p c v) (v .missing)) (eqb (v .missing) (askedFor p u v)))

@@ -18,7 +18,7 @@ use Rattle.journeys.specs.declared.Found.{Found}
 abbrev pub urlAt : List ℕ → List ℕ → ℕ → ℕ
 urlAt p urls i = upgraded p (getD urls i 0)
 
--- What arrives at a place, on connection c. A redirect comes from the URL that the connection then holds, and brings no cookies.
+-- What the monitor is fed at a place, on connection c: a load, or a redirect from the URL that the connection then holds, without cookies.
 abbrev pub eventAt : List ℕ → List ℕ → ℕ → ℕ → Event
 eventAt p urls c zero = Load (urlAt p urls 0) c
 eventAt p urls c (suc i) = Arrival (urlAt p urls i) c [] (Redirect (urlAt p urls (suc i)))

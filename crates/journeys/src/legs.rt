@@ -1,4 +1,4 @@
-// The URLs of a journey one by one: whether each is there, and what the monitor's labels say of the load or redirect to it.
+// The legs of a journey, a load and then redirects: whether the URL of each is there, and what the monitor's labels say of it.
 ghost use mathlib.Core.Path.{_≡_};
 ghost use mathlib.Core.Bool.{true};
 ghost use Prim.Native.Nat.{_<_};
