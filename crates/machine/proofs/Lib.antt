@@ -12,6 +12,7 @@ pub mod Upgrading
 pub mod WordSizes
 pub mod Refusals
 pub mod Sending
+pub mod Runs
 pub mod Observer
 pub mod SeenRequests
 pub mod Unwinding

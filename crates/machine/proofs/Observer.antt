@@ -1,4 +1,4 @@
--- An observer as data: what it sees of sessions, records and requests, and the laws that a policy's tests must give it. Secrecy is one
+-- An observer as data: what it sees of sessions, records and requests, and the laws that a policy's tests must give it. Readers is an
 -- instance. States that agree are those that the observer cannot tell apart.
 use Rattle.prelude.proofs.Kit.{ℕ, _<_, arith, Bool, not, List, _++_, map, _≡_, sym, _∙_, refl, ap, subst, T, T-not, length, ℕ-discrete}
 use Rattle.prelude.specs.Choice.{keep}
@@ -8,8 +8,8 @@ use Rattle.records.specs.declared.Record.{Record}
 use Rattle.labels.specs.Membership.{isNone}
 use Rattle.machine.specs.Policy.{hostKeys, connections, cookieIndex, urlHost, isUrl, mayStore, mayCarry, mayRead, mayWrite, maySend, fitMissingReader, redirectMissingReader, redirectMissingWriter}
 use Rattle.machine.specs.Session.{stateWords, cookieValue, present, has, connectionWord, setCookie, setConnection}
-use Rattle.machine.specs.Machine.{plainMap, cookiesOf}
-use Rattle.machine.specs.Secrecy.{Observation}
+use Rattle.machine.specs.Machine.{cookiesOf}
+use Rattle.machine.specs.Runs.{Observation, observed}
 use Rattle.machine.proofs.StateWords.{length-cookie, length-connection, value-here, value-elsewhere, present-here, present-elsewhere, connection-past-cookie, connection-here, connection-elsewhere, value-past-connection, presence-past-connection}
 
 pub record Observer : Type 0 where
@@ -39,13 +39,7 @@ pub record Laws (p : List ℕ) (v : Observer) : Type 0 where
 -- ---- requests as an observer sees them
 
 unfoldable pub observationBy : Observer → Record → Observation
-observationBy v r = record {
-  kind = plainMap (r .map);
-  url = r .url;
-  connection = r .connection;
-  handler = r .script;
-  cookies = keep (λ c. v .seesAttached (r .url) (c .key)) (cookiesOf r);
-}
+observationBy v r = observed (keep (λ c. v .seesAttached (r .url) (c .key)) (cookiesOf r)) r
 
 unfoldable pub observationsBy : Observer → List Record → List Observation
 observationsBy v rs = map (observationBy v) (keep (λ r. v .seesRequest (r .url)) rs)

@@ -1,7 +1,7 @@
 -- What an observer sees of one event: an event that it does not see changes nothing visible, and an event that it sees does the same to
 -- states that agree, whatever unseen cookies it brings.
 use Rattle.prelude.proofs.Kit.{ℕ, _<_, arith, _&&_, Bool, not, List, _∷_, [], _≡_, refl, ap, subst, T, eqb, length}
-use Rattle.prelude.specs.Choice.{keep}
+use Rattle.prelude.specs.Choice.{branch, keep}
 use Rattle.prelude.proofs.Choices.{parts, one, two}
 use Rattle.labels.specs.Addresses.{hosts}
 use Rattle.labels.specs.Membership.{isNone}
@@ -9,14 +9,11 @@ use Rattle.machine.specs.Policy.{hostKeys, connections, cookieIndex, url
 use Rattle.machine.specs.Session.{stateWords, free, documentKind, connectionWord, kindOf, originOf, handlerOf, urlOf, Cookie, storeCookie, storeCookies, setConnection}
 use Rattle.machine.specs.Scripts.{runScript}
 use Rattle.machine.specs.Machine.{Arrived, DocumentResponse, ScriptResponse, PictureResponse, Redirect, Event, Load, Arrival, named, pending, ofKind, awaited, toTarget, missingReader, missingWriter, receive, perform}
+use Rattle.machine.specs.Runs.{cookiesWhere}
 use Rattle.machine.proofs.Accepted.{allowed, allowed-by, react}
 use Rattle.machine.proofs.Events.{KeysBelow, EventKeys, connection-below}
 use Rattle.machine.proofs.Observer.{Observer, Laws, Agree, agree-refl, agree-trans, agree-sym, unseen-cookie, unseen-connection, same-cookie, same-connection}
 use Rattle.machine.proofs.Unwinding.{Alike, Quiet, unseen, stopped-alike, stopped-quiet, after-quiet, send-alike, send-quiet, script-alike, script-quiet}
-
--- the cookies of a host that an observer sees
-unfoldable pub seenCookies : Observer → ℕ → List Cookie → List Cookie
-seenCookies v h cs = keep (λ c. v .seesCookie (cookieIndex h (c .key))) cs
 
 -- whether it sees an event, and what it sees of it
 unfoldable pub seesEvent : Observer → Event → Bool
@@ -25,7 +22,11 @@ seesEvent v (Arrival u n cs what) = v .seesConnection n
 
 unfoldable pub seenOf : List ℕ → Observer → Event → Event
 seenOf p v (Load u n) = Load u n
-seenOf p v (Arrival u n cs what) = Arrival u n (seenCookies v (urlHost p u) cs) what
+seenOf p v (Arrival u n cs what) = Arrival u n (cookiesWhere (v .seesCookie) p u cs) what
+
+-- what is left of an event where all is struck that it does not see
+unfoldable pub seen : List ℕ → Observer → Event → List Event
+seen p v e = branch (seesEvent v e) (seenOf p v e ∷ []) []
 
 module _ (p : List ℕ) (v : Observer) (laws : Laws p v) where
   -- ---- delivered cookies
@@ -44,8 +45,9 @@ module _ (p : List ℕ) (v : Observer) (laws : Laws p v) where
         one (Agree v s) (mayStore p n (cookieIndex h (c .key))) (λ m. unseen-cookie v s whole h (c .key) (c .value) lh l (hidden m)) (λ _. agree-refl v s whole)
 
     -- all of them, against those that are seen
-    store-alike : (cs : List Cookie) → KeysBelow cs → (s t : List ℕ) → Agree v s t → Agree v (storeCookies p n h cs s) (storeCookies p n h (seenCookies v h cs) t)
-    unfolding storeCookies seenCookies keep
+    store-alike : (cs : List Cookie) → KeysBelow cs → (s t : List ℕ) → Agree v s t
+        → Agree v (storeCookies p n h cs s) (storeCookies p n h (keep (λ c. v .seesCookie (cookieIndex h (c .key))) cs) t)
+    unfolding storeCookies keep
     store-alike [] below s t a = a
     store-alike (c ∷ cs) below s t a =
         one (λ (l : List Cookie). Agree v (storeCookies p n h cs (storeCookie p n h c s)) (storeCookies p n h l t)) (v .seesCookie (cookieIndex h (c .key)))
@@ -107,12 +109,12 @@ module _ (p : List ℕ) (v : Observer) (laws : Laws p v) where
 
     perform-alike : (e : Event) (s t : List ℕ) → T (named p e) → EventKeys e → T (seesEvent v e) → Agree v s t
         → Alike v (perform p scripts s e) (perform p scripts t (seenOf p v e))
-    unfolding perform seesEvent seenOf
+    unfolding perform seesEvent seenOf cookiesWhere
     perform-alike (Load u n) s t ok below seen a = send-alike p v laws n documentKind 0 0 u s t (connection-below p (Load u n) ok) a
     perform-alike (Arrival u n cs what) s t ok below seen a =
         let l = connection-below p (Arrival u n cs what) ok in
         let s′ = storeCookies p n (urlHost p u) cs s in
-        let t′ = storeCookies p n (urlHost p u) (seenCookies v (urlHost p u) cs) t in
+        let t′ = storeCookies p n (urlHost p u) (cookiesWhere (v .seesCookie) p u cs) t in
         subst (λ (w : ℕ). Alike v (receive p scripts n (connectionWord s n) what s′) (receive p scripts n w what t′)) (a .words n l seen)
         (receive-alike n (connectionWord s n) what s′ t′ l (store-alike n (urlHost p u) (omega arith) cs below s t a))
 

@@ -1,7 +1,8 @@
 -- The examples beside demand 3 hold: they are computed.
 use Rattle.prelude.specs.Lists.{sameNumbers}
 use Rattle.machine.specs.Cases.{with, emptyRows, policyWith, stepBytes, stepsBytes, scriptsWith}
-use Rattle.machine.specs.Secrecy.{feedAll, run, shownCookies, shown, shownRecord, shownRecords, remaining, observationOf, observations}
+use Rattle.machine.specs.Runs.{feedAll, run, cookiesWhere, leftOfRecord, leftOfRecords, remaining}
+use Rattle.machine.specs.Secrecy.{shownCookies, shown, observationOf, observations}
 use Rattle.machine.specs.SecrecyExamples.{hiddenUnseen, hiddenPictureUnseen, hiddenThenShown, shownThenHidden, toldApart}
 use Rattle.machine.specs.SecrecyExamples.{saysSomething, saysSomethingOfPictures, saysSomethingOfUpgrading, SaysSomething, PicturesSaySomething, UpgradingSaysSomething}
 use Rattle.machine.proofs.Computing.{machine}
@@ -9,7 +10,7 @@ use Rattle.machine.proofs.Computing.{machine}
 -- what the examples are told with, opened too
 unfoldable pub examples : Unit {0}
 unfolding machine with emptyRows policyWith stepBytes stepsBytes scriptsWith sameNumbers
-    feedAll run shownCookies shown shownRecord shownRecords remaining observationOf observations
+    feedAll run cookiesWhere leftOfRecord leftOfRecords remaining shownCookies shown observationOf observations
     hiddenUnseen hiddenPictureUnseen hiddenThenShown shownThenHidden toldApart saysSomething saysSomethingOfPictures saysSomethingOfUpgrading
 examples = tt
 

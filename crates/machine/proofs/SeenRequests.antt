@@ -9,7 +9,7 @@ use Rattle.records.specs.Layout.{keyNumbers, documentRequest, scriptRequest, pi
 use Rattle.machine.specs.Policy.{hostKeys, cookieIndex, urlHost, mayCarry}
 use Rattle.machine.specs.Session.{scriptKind, pictureKind, plainRequest, cookieValue, present, has, keyMap, Cookie, attaches, requestMap, request}
 use Rattle.machine.specs.Machine.{plainMap, cookiesOf}
-use Rattle.machine.specs.Secrecy.{Observation}
+use Rattle.machine.specs.Runs.{Observation}
 use Rattle.machine.proofs.Lists.{Each}
 use Rattle.machine.proofs.KeyMaps.{has-map}
 use Rattle.machine.proofs.Observer.{Observer, Laws, Agree, observationBy, observationsBy}

@@ -8,5 +8,7 @@ pub mod HttpsCases
 pub mod EntryCases
 pub mod MissingCases
 pub mod Guarantees
+pub mod Runs
 pub mod Secrecy
+pub mod ExampleLists
 pub mod SecrecyExamples

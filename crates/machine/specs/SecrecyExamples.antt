@@ -2,47 +2,17 @@
 -- computing, are in proofs/SecrecyExamples.antt.
 use Prim.Native.Nat.{ℕ}
 use mathlib.Core.Bool.{Bool, not, _&&_}
-use mathlib.Core.List.{List, [], _∷_, _++_, map}
+use mathlib.Core.List.{List, [], _∷_, map}
 use lib.Dec.{T, eqb}
-use lib.ListN.{length, replicate}
+use lib.ListN.{length}
 use Rattle.prelude.specs.Lists.{sameNumbers}
-use Rattle.records.specs.declared.Record.{Record}
-use Rattle.records.specs.Codec.{bytesOf}
 use Rattle.machine.specs.Policy.{cookieIndex}
-use Rattle.machine.specs.Session.{free, documentKind, packed, cookieValue, connectionWord, Cookie}
+use Rattle.machine.specs.Session.{free, documentKind, packed, cookieValue, connectionWord}
 use Rattle.machine.specs.Scripts.{end, constant, writeCookie, sendRequest, sendPicture}
-use Rattle.machine.specs.Machine.{Arrived, DocumentResponse, ScriptResponse, PictureResponse, Redirect, Event, Load, Arrival}
 use Rattle.machine.specs.Cases.{url, cookieLabel, connection, alwaysHttps, partner, policyWith, scriptsWith, scriptOf}
-use Rattle.machine.specs.Secrecy.{Item, Trace, run, remaining, Observation, observations}
-
--- ---- what is compared, as lists of numbers
-
--- Different events have different lists: a number for each kind, then its fields, with the count of cookies before them.
-abbrev pub cookieNumbers : List Cookie → List ℕ
-cookieNumbers [] = []
-cookieNumbers (c ∷ cs) = c .key ∷ c .value ∷ cookieNumbers cs
-
-abbrev pub arrivedNumbers : Arrived → List ℕ
-arrivedNumbers (DocumentResponse x) = 1 ∷ x ∷ []
-arrivedNumbers (ScriptResponse v) = 2 ∷ v ∷ []
-arrivedNumbers PictureResponse = 3 ∷ []
-arrivedNumbers (Redirect t) = 4 ∷ t ∷ []
-
-abbrev pub eventNumbers : Event → List ℕ
-eventNumbers (Load u n) = 0 ∷ u ∷ n ∷ []
-eventNumbers (Arrival u n cs what) = arrivedNumbers what ++ (u ∷ n ∷ length cs ∷ cookieNumbers cs)
-
-abbrev pub eventsNumbers : List Event → List ℕ
-eventsNumbers [] = []
-eventsNumbers (e ∷ es) = eventNumbers e ++ eventsNumbers es
-
--- and so have different observations
-abbrev pub observationNumbers : Observation → List ℕ
-observationNumbers v = v .kind ∷ v .url ∷ v .connection ∷ v .handler ∷ length (v .cookies) ∷ cookieNumbers (v .cookies)
-
-abbrev pub observationsNumbers : List Observation → List ℕ
-observationsNumbers [] = []
-observationsNumbers (v ∷ vs) = observationNumbers v ++ observationsNumbers vs
+use Rattle.machine.specs.Runs.{Item, Trace, run, remaining}
+use Rattle.machine.specs.Secrecy.{shown, observations}
+use Rattle.machine.specs.ExampleLists.{items, eventsNumbers, observationsNumbers, sentBytes}
 
 -- ---- a policy, scripts and a set
 
@@ -74,20 +44,12 @@ scriptsTwoHosts = scriptsWith (
 abbrev pub httpHostOne : ℕ
 httpHostOne = 0x00000002
 
--- a list of records, with a byte that fills buffers of a length
-abbrev pub items : ℕ → ℕ → List (List ℕ) → List Item
-items room filler records = map (λ r. record { bytes = r; buffer = replicate room filler }) records
-
 -- what remains of a list, and what the set sees of a run, under a policy
 abbrev pub remainingNumbers : List ℕ → List Item → List ℕ
-remainingNumbers p is = eventsNumbers (remaining httpHostOne p is)
+remainingNumbers p is = eventsNumbers (remaining (shown httpHostOne p) p is)
 
 abbrev pub seenNumbers : List ℕ → Trace → List ℕ
 seenNumbers p r = observationsNumbers (observations httpHostOne p (r .requests))
-
-abbrev pub sentBytes : List Record → List ℕ
-sentBytes [] = []
-sentBytes (r ∷ rs) = bytesOf r ++ sentBytes rs
 
 -- ---- two lists that the set cannot tell apart
 
@@ -140,7 +102,7 @@ requestsDiffer a b =
 
 -- Once what is hidden is struck the lists are equal, and so many records are left.
 abbrev pub struckAlike : List ℕ → ℕ → List Item → List Item → Bool
-struckAlike p count is js = sameNumbers (remainingNumbers p is) (remainingNumbers p js) && eqb (length (remaining httpHostOne p is)) count
+struckAlike p count is js = sameNumbers (remainingNumbers p is) (remainingNumbers p js) && eqb (length (remaining (shown httpHostOne p) p is)) count
 
 -- The set sees the same of both.
 abbrev pub seenAlike : List ℕ → List ℕ → Trace → Trace → Bool
