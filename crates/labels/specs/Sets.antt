@@ -1,6 +1,6 @@
 -- A set of endpoints as a word of 32 bits (document 01, "Marks and sets").
 use Prim.Native.Nat.{ℕ, zero, suc, _+_, _-_, _*_, _/_, _%_, _^_}
-use mathlib.Core.Bool.{Bool, _&&_, cond}
+use mathlib.Core.Bool.{Bool, not, _&&_, cond}
 use lib.Dec.{ltb, eqb}
 use Rattle.labels.specs.Membership.{Membership, endpoints, subset, lowestMissing, missingOne, share}
 
@@ -20,9 +20,12 @@ missing s t = lowestMissing (holds s) (holds t)
 abbrev pub unheld : ℕ → ℕ → ℕ
 unheld s a = missingOne (holds s) a
 
--- a set meets another when they share an endpoint
+-- a set meets another when they share an endpoint, and misses it when they share none
 abbrev pub meets : ℕ → ℕ → Bool
 meets s t = share (holds s) (holds t)
+
+abbrev pub misses : ℕ → ℕ → Bool
+misses s t = not (meets s t)
 
 -- the empty set, the set of all 32 endpoints, and the set of one endpoint
 unfoldable pub empty : ℕ

@@ -20,6 +20,8 @@ pub mod Reactions
 pub mod Noninterference
 pub mod Readers
 pub mod Secrecy
+pub mod Writers
+pub mod Integrity
 pub mod Computing
 pub mod Cases
 pub mod SecrecyExamples

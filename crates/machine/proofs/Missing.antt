@@ -1,11 +1,11 @@
 -- What is missing where 8 or 9 refuses: where none is, their conditions hold, and what is told otherwise is an endpoint.
-use Rattle.prelude.proofs.Kit.{ℕ, _≤_, arith, true, _&&_, Bool, false, not, _||_, List, subst, T, T-not, ltb, ltb→lt, and-i}
+use Rattle.prelude.proofs.Kit.{ℕ, _≤_, _<_, arith, true, _&&_, Bool, false, not, _||_, List, subst, T, T-not, ltb, ltb→lt, and-i}
 use Rattle.prelude.proofs.Choices.{parts, one}
 use Rattle.labels.specs.Membership.{endpoints, noneMissing, isNone}
 use Rattle.labels.specs.Sets.{holds, within, unheld}
 use Rattle.labels.proofs.Below.{all-at}
 use Rattle.labels.proofs.Membership.{none-missing, missing-most, none-unheld, unheld-most}
-use Rattle.machine.specs.Policy.{urlRows, urlAddress, urlReaders, urlWriters, connectionReaders, connectionWriters, urlMessage, urlEvent, emptyRow, isUrl, rowWellFormed, wellFormed}
+use Rattle.machine.specs.Policy.{urlRows, isEntry, urlAddress, urlReaders, urlWriters, connectionReaders, connectionWriters, urlMessage, urlEvent, emptyRow, isUrl, rowWellFormed, wellFormed}
 use Rattle.machine.specs.Policy.{fitMissingReader, fitMissingWriter, fits, reachMissingWriter, firstMissing, redirectMissingReader, redirectMissingWriter}
 use Rattle.machine.specs.Machine.{Arrived, DocumentResponse, ScriptResponse, PictureResponse, Redirect, Event, Load, Arrival, carriesNames, named, toTarget, missingReader, missingWriter}
 
@@ -37,7 +37,12 @@ module _ (p : List ℕ) where
   unfolding fits redirectMissingWriter
   redirect-fits n t r w =
       and-i (isNone (fitMissingReader p n t)) (isNone (fitMissingWriter p n t)) (redirect-readers n t r .1)
-      (none-first (fitMissingWriter p n t) (reachMissingWriter p (connectionWriters p n) t) w .0)
+      (none-first (fitMissingWriter p n t) _ w .0)
+
+  -- and the connection's writers may lead there
+  pub redirect-led : (n t : ℕ) → T (isNone (redirectMissingWriter p n t)) → T (isNone (reachMissingWriter p (connectionWriters p n) t))
+  unfolding redirectMissingWriter
+  redirect-led n t w = none-first (fitMissingWriter p n t) (reachMissingWriter p (connectionWriters p n) t) w .1
 
   -- ---- no more than 32 is told
 
@@ -46,6 +51,10 @@ module _ (p : List ℕ) where
   target-most f (ScriptResponse v) names g = omega arith
   target-most f PictureResponse names g = omega arith
   target-most f (Redirect t) names g = g t names
+
+  reach-most : (writers u : ℕ) → reachMissingWriter p writers u ≤ noneMissing
+  unfolding reachMissingWriter
+  reach-most writers u = one (λ (x : ℕ). x ≤ noneMissing) (isEntry p u) (λ _. omega arith) (λ _. missing-most (holds writers) (holds (urlWriters p u)))
 
   fit-reader-most : (n u : ℕ) → fitMissingReader p n u ≤ noneMissing
   unfolding fitMissingReader
@@ -74,13 +83,19 @@ module _ (p : List ℕ) where
     event-held u t = let row = full-row u t in search parts
 
     -- the message endpoint of a URL is an endpoint
+    message-below : (u : ℕ) → T (isUrl p u) → urlMessage p u < endpoints
+    message-below u t = let row = full-row u t in ltb→lt (urlAddress p u) endpoints (search parts)
+
+    pub message-held : (n u : ℕ) → T (isUrl p u) → T (isNone (fitMissingWriter p n u)) → T (holds (connectionWriters p n) (urlMessage p u))
+    unfolding fitMissingWriter
+    message-held n u t m = subst T (none-unheld (holds (connectionWriters p n)) (urlMessage p u) (message-below u t)) m
+
     fit-writer-most : (n u : ℕ) → T (isUrl p u) → fitMissingWriter p n u ≤ noneMissing
     unfolding fitMissingWriter
-    fit-writer-most n u t = let row = full-row u t in unheld-most (holds (connectionWriters p n)) (urlMessage p u) (ltb→lt (urlAddress p u) endpoints (search parts))
+    fit-writer-most n u t = unheld-most (holds (connectionWriters p n)) (urlMessage p u) (message-below u t)
 
     pub writer-most : (e : Event) → T (named p e) → missingWriter p e ≤ noneMissing
-    unfolding missingWriter named redirectMissingWriter reachMissingWriter
+    unfolding missingWriter named redirectMissingWriter
     writer-most (Load u n) names = fit-writer-most n u (search parts)
     writer-most (Arrival u n cs what) names = target-most (redirectMissingWriter p n) what (search parts) (λ t url.
-        first-most (fitMissingWriter p n t) (reachMissingWriter p (connectionWriters p n) t) (fit-writer-most n t url)
-        (one (λ (x : ℕ). x ≤ noneMissing) _ (λ _. omega arith) (λ _. missing-most (holds (connectionWriters p n)) (holds (urlWriters p t)))))
+        first-most (fitMissingWriter p n t) _ (fit-writer-most n t url) (reach-most _ t))

@@ -1,5 +1,5 @@
--- An observer as data: what it sees of sessions, records and requests, and the laws that a policy's tests must give it. Readers is an
--- instance. States that agree are those that the observer cannot tell apart.
+-- An observer as data: what it sees of sessions, records and requests, and the laws that a policy's tests must give it. Readers and Writers are
+-- instances. States that agree are those that the observer cannot tell apart.
 use Rattle.prelude.proofs.Kit.{ℕ, _<_, arith, Bool, not, List, _++_, map, _≡_, sym, _∙_, refl, ap, subst, T, T-not, length, ℕ-discrete}
 use Rattle.prelude.specs.Choice.{keep}
 use Rattle.prelude.proofs.Choices.{keep-append, map-append}

@@ -1,5 +1,5 @@
--- The observer of secrecy: a set of endpoints sees what has a reader in it. The laws of an observer, one for each condition of the policy's
--- tests that speaks of readers.
+-- The observer of secrecy: a set of endpoints sees what has a reader in it. It has the laws of an observer, each by a condition of the policy's tests
+-- that speaks of readers.
 use Rattle.prelude.proofs.Kit.{ℕ, _<_, List, T}
 use Rattle.prelude.proofs.Choices.{parts}
 use Rattle.labels.specs.Sets.{holds, within, meets}

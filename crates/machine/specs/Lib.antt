@@ -10,5 +10,6 @@ pub mod MissingCases
 pub mod Guarantees
 pub mod Runs
 pub mod Secrecy
+pub mod Integrity
 pub mod ExampleLists
 pub mod SecrecyExamples

@@ -1,5 +1,5 @@
 -- What the claims about whole lists of records share (document 01, "The secrecy rule"): how a list is fed, what remains of it, and a request as it is
--- compared. A claim is in Secrecy.antt.
+-- compared. The claims are in Secrecy.antt and Integrity.antt.
 use Prim.Native.Nat.{ℕ, _≤_}
 use mathlib.Core.Bool.{Bool, _&&_}
 use mathlib.Core.List.{List, [], _∷_, _++_}
