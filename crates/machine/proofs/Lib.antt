@@ -24,4 +24,3 @@ pub mod Writers
 pub mod Integrity
 pub mod Computing
 pub mod Cases
-pub mod SecrecyExamples

@@ -12,4 +12,3 @@ pub mod Runs
 pub mod Secrecy
 pub mod Integrity
 pub mod ExampleLists
-pub mod SecrecyExamples

@@ -7,7 +7,7 @@ use lib.ListN.{replicate}
 use Rattle.prelude.specs.Choice.{every}
 use Rattle.prelude.specs.Lists.{sameNumbers}
 use Rattle.records.specs.Layout.{sum}
-use Rattle.machine.specs.SecrecyExamples.{sentWithHidden, sentWithHiddenPicture}
+use Rattle.machine.specs.ExampleLists.{sentWithHidden, sentWithHiddenPicture}
 use Rattle.usage.specs.Tally.{listBad, tallied}
 use Rattle.usage.specs.Lines.{Line, lines}
 

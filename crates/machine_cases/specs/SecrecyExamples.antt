@@ -6,13 +6,13 @@ use mathlib.Core.List.{List, [], _∷_, map}
 use lib.Dec.{T, eqb}
 use lib.ListN.{length}
 use Rattle.prelude.specs.Lists.{sameNumbers}
 use Rattle.machine.specs.Policy.{cookieIndex}
 use Rattle.machine.specs.Session.{free, documentKind, packed, cookieValue, connectionWord}
 use Rattle.machine.specs.Scripts.{end, constant, writeCookie, sendRequest, sendPicture}
 use Rattle.machine.specs.Cases.{url, cookieLabel, connection, alwaysHttps, partner, policyWith, scriptsWith, scriptOf}
 use Rattle.machine.specs.Runs.{Item, Trace, run, remaining}
 use Rattle.machine.specs.Secrecy.{shown, observations}
-use Rattle.machine.specs.ExampleLists.{items, eventsNumbers, observationsNumbers, sentBytes}
+use Rattle.machine.specs.ExampleLists.{items, eventsNumbers, observationsNumbers, sentBytes, sentWithHidden, sentWithHiddenPicture}
 
 -- ---- a policy, scripts and a set
 
@@ -79,16 +79,6 @@ values r = map (cookieValue (r .state)) (cookieIndex 0 0 ∷ cookieIndex 1 0 ∷
 abbrev pub statesDiffer : Trace → Trace → Bool
 statesDiffer a b = sameNumbers (values a) (9 ∷ 7 ∷ 8 ∷ []) && sameNumbers (values b) (0 ∷ 7 ∷ 0 ∷ [])
 
--- what the first of them sends
-abbrev pub sentWithHidden : List ℕ
-sentWithHidden =
-    0x03 ∷ 0x01 ∷ 0x01
-    ∷ 0x03 ∷ 0x00 ∷ 0x00
-    ∷ 0x0f ∷ 0x00 ∷ 0x00 ∷ 0x01 ∷ 0x00 ∷ 0x00 ∷ 0x00 ∷ 0x09 ∷ 0x00
-    ∷ 0x0f ∷ 0x01 ∷ 0x01 ∷ 0x01 ∷ 0x00 ∷ 0x00 ∷ 0x00 ∷ 0x07 ∷ 0x00
-    ∷ 0x07 ∷ 0x02 ∷ 0x01 ∷ 0x02 ∷ 0x00 ∷ 0x00 ∷ 0x00 ∷ 0x08
-    ∷ []
-
 -- They send different bytes. Each record of both sends one request, as none that is refused does, so all are accepted. With what is hidden
 -- there are a request of the hidden load and one of its response's script, and cookie (1,1) is in the last request.
 abbrev pub requestsDiffer : Trace → Trace → Bool
@@ -143,15 +133,6 @@ pictureBringing v = items 1184 0xee (
     ∷ (0x47 ∷ 0x01 ∷ 0x01 ∷ 0x01 ∷ 0x00 ∷ 0x00 ∷ 0x00 ∷ v ∷ [])
     ∷ (0x03 ∷ 0x01 ∷ 0x01 ∷ [])
     ∷ [])
-
-abbrev pub sentWithHiddenPicture : List ℕ
-sentWithHiddenPicture =
-    0x03 ∷ 0x01 ∷ 0x01
-    ∷ 0x03 ∷ 0x00 ∷ 0x00
-    ∷ 0x43 ∷ 0x00 ∷ 0x00
-    ∷ 0x43 ∷ 0x01 ∷ 0x01
-    ∷ 0x07 ∷ 0x01 ∷ 0x01 ∷ 0x01 ∷ 0x00 ∷ 0x00 ∷ 0x00 ∷ 0x07
-    ∷ []
 
 -- The set sees the page, its picture, and the page again with the cookie that came with the picture.
 abbrev pub pictureObservations : List ℕ

@@ -1,0 +1,4 @@
+pub mod Cases
+pub mod SecrecyExamples
+pub mod IntegrityExamples
+pub mod Instances

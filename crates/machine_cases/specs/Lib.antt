@@ -1,0 +1,4 @@
+pub mod WellFormedCases
+pub mod SecrecyExamples
+pub mod IntegrityExamples
+pub mod Instances
