@@ -10,6 +10,7 @@ pub mod damage;
 pub mod difference;
 pub mod events;
 pub mod guarded;
+pub mod hex;
 pub mod journey;
 pub mod labels;
 pub mod line;

@@ -1,5 +1,6 @@
 //! How long a test goes on, from which seed, and which case is replayed: the arguments that the tests share.
 
+use std::env;
 use std::io::IsTerminal;
 use std::time::{Duration, Instant};
 
@@ -67,6 +68,25 @@ fn number(word: &str) -> Option<u64> {
         Some(digits) => u64::from_str_radix(digits, 16).ok(),
         None => word.parse().ok(),
     }
+}
+
+/// Whether every event was seen, where there was time for it: fewer cases than are enough may not see all, and are not asked to.
+pub fn covered(extent: Extent, enough: u64, all: bool) -> bool {
+    if let Extent::Cases(cases) = extent {
+        if cases < enough {
+            println!("{cases} cases are fewer than {enough}: not every event must be seen");
+            return true;
+        }
+    }
+    let said = ["FAILED: an event was never seen", "every event seen"];
+    println!("{}", said[usize::from(all)]);
+    all
+}
+
+/// The command that shows a case again, or a part of it.
+pub fn print_replay(name: &str, place: &str) {
+    let program = env::args().next().unwrap_or(name.into());
+    println!("replay: {program} --replay {place}");
 }
 
 /// Says when a test is over and when a line about its progress is due.

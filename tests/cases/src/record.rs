@@ -27,8 +27,9 @@ const REQUEST_MAP: u8 = LOAD | COOKIES;
 /// Where the key map stands in a record with cookies.
 const KEY_MAP_AT: usize = 3;
 
-#[derive(Clone, Copy, Default)]
-pub(crate) struct Fields {
+/// A record taken apart, an input or a request; what its map does not carry is 0.
+#[derive(Clone, Copy, Debug, Default, PartialEq, Eq)]
+pub struct Fields {
     pub map: u8,
     pub url: u8,
     pub connection: u8,
@@ -40,7 +41,7 @@ pub(crate) struct Fields {
 }
 
 impl Fields {
-    fn write(&self, record: &mut Vec<u8>) {
+    pub fn write(&self, record: &mut Vec<u8>) {
         record.clear();
         self.append(record);
     }
@@ -160,7 +161,7 @@ fn load(setting: &Setting, random: &Random) -> Fields {
 }
 
 /// A response or a redirect on an open connection.
-fn awaited(setting: &Setting, state: &[u32], connection: u8, random: &Random) -> Fields {
+pub fn awaited(setting: &Setting, state: &[u32], connection: u8, random: &Random) -> Fields {
     let pending = Pending::of(state, connection);
     let mut fields = Fields {
         map: response_to(pending),

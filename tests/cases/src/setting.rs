@@ -211,7 +211,8 @@ impl Setting {
     }
 }
 
-pub(crate) fn mask_of(count: usize, holds: impl Fn(u8) -> bool) -> u64 {
+/// The numbers below a count of which this holds, as a mask.
+pub fn mask_of(count: usize, holds: impl Fn(u8) -> bool) -> u64 {
     (0..count as u8)
         .filter(|&n| holds(n))
         .fold(0, |mask, n| mask | 1 << n)

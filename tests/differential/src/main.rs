@@ -27,13 +27,14 @@ use std::env;
 use std::panic::{catch_unwind, AssertUnwindSafe};
 use std::process::ExitCode;
 
-use cases::plan::Clock;
+use cases::plan::{covered, print_replay, Clock};
 use cases::{Extent, Plan};
 
 use case::{play, Failure};
 use checker::Checker;
 use tally::Tally;
 
+const NAME: &str = "differential";
 const USAGE: &str = "usage: differential [SECONDS [SEED]]
        differential --cases N [SEED]
        differential --replay SEED:CASE[:CALL]";
@@ -73,7 +74,8 @@ fn test(plan: Plan) -> bool {
     }
     tally.print(clock.seconds(), &checker.seen);
     println!("no difference");
-    covered(plan.extent, &checker)
+    let all = checker.seen.missing().is_empty();
+    covered(plan.extent, COVERING_CASES, all)
 }
 
 /// Checks the next case, and tells where it fails.
@@ -93,30 +95,13 @@ fn passes(seed: u64, checker: &mut Checker, tally: &mut Tally) -> bool {
         }
         Ok(Err(Failure { call, error })) => {
             println!("DIFFERENCE in case {case}, call {call}: {error}");
-            print_replay(&format!("{seed}:{case}:{call}"));
+            print_replay(NAME, &format!("{seed}:{case}:{call}"));
             false
         }
         Err(_) => {
             println!("PANIC in case {case}");
-            print_replay(&format!("{seed}:{case}"));
+            print_replay(NAME, &format!("{seed}:{case}"));
             false
         }
     }
-}
-
-fn print_replay(place: &str) {
-    let program = env::args().next().unwrap_or("differential".into());
-    println!("replay: {program} --replay {place}");
-}
-
-/// Whether every event was seen, where there was time for it.
-fn covered(extent: Extent, checker: &Checker) -> bool {
-    if let Extent::Cases(cases @ ..COVERING_CASES) = extent {
-        println!("{cases} cases are fewer than {COVERING_CASES}: not every event must be seen");
-        return true;
-    }
-    let all = checker.seen.missing().is_empty();
-    let said = ["FAILED: an event was never seen", "every event seen"];
-    println!("{}", said[usize::from(all)]);
-    all
 }

@@ -6,11 +6,13 @@ use crate::layout::*;
 use crate::policy::{ConnectionTag, Policy, Url};
 use crate::request::write_request;
 use crate::request_step::{RequestStep, PICTURE, SEND};
+use crate::rules::Rules;
 use crate::seen::{Event, Seen};
 use crate::state::{Pending, State};
 
 /// One script at work.
 pub struct Interpreter<'a> {
+    pub rules: &'a dyn Rules,
     pub policy: &'a Policy,
     pub state: &'a mut State,
     pub output: &'a mut Vec<u8>,
@@ -127,11 +129,8 @@ impl Interpreter<'_> {
         let b = below(KEYS, b, Event::EndReadKey)?;
         let own = self.own();
         let cookie = self.policy.cookie(self.host(), b);
-        require(
-            own.script_readers.within(cookie.readers),
-            Event::EndReadReaders,
-        )?;
-        require(cookie.writers.within(own.writers), Event::EndReadWriters)?;
+        require(self.rules.read_readers(own, cookie), Event::EndReadReaders)?;
+        require(self.rules.read_writers(own, cookie), Event::EndReadWriters)?;
         let value = self.state.cookie(self.host(), b);
         self.registers[a] = value.ok_or(End(Event::EndReadAbsent))?;
         self.seen.note(Event::StepRead);
@@ -147,9 +146,9 @@ impl Interpreter<'_> {
         let b = below(REGISTERS, b, Event::EndWriteRegister)?;
         let own = self.own();
         let cookie = self.policy.cookie(self.host(), a);
-        if !cookie.readers.within(own.script_readers) {
+        if !self.rules.write_readers(own, cookie) {
             self.seen.note(Event::StepWriteReaders);
-        } else if !own.writers.within(cookie.writers) {
+        } else if !self.rules.write_writers(own, cookie) {
             self.seen.note(Event::StepWriteWriters);
         } else {
             self.state.store(self.host(), a, self.registers[b]);
@@ -238,12 +237,13 @@ impl Interpreter<'_> {
         let url = self.url(url);
         let own = self.own();
         let other = self.policy.connection(connection);
-        require(own.script_readers.holds(url.event_endpoint()), step.event)?;
-        require(other.readers.within(own.script_readers), step.readers)?;
-        require(other.readers_fit(url), step.fit_readers)?;
+        let rules = self.rules;
+        require(rules.send_event(own, url), step.event)?;
+        require(rules.send_readers(own, other), step.readers)?;
+        require(rules.fit_readers(other, url).is_empty(), step.fit_readers)?;
         require(other.writers_fit(url), step.fit_writers)?;
-        require(own.writers.within(other.writers), step.writers)?;
-        require(own.writers_admitted(url), step.url_writers)
+        require(rules.send_writers(own, other), step.writers)?;
+        require(rules.send_url_writers(own, url), step.url_writers)
     }
 
     /// Opens a connection, replacing what was there, and sends its request;
@@ -256,7 +256,14 @@ impl Interpreter<'_> {
         } = named;
         self.note_opened(connection, step);
         self.state.pending[connection] = Some(pending);
-        let carried = write_request(self.policy, self.state, connection, self.output, self.seen);
+        let carried = write_request(
+            self.rules,
+            self.policy,
+            self.state,
+            connection,
+            self.output,
+            self.seen,
+        );
         let host = self.url(url).host();
         if carried.iter().any(|&(key, _)| !self.reads(host, key)) {
             self.seen.note(step.unreadable);

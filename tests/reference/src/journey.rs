@@ -8,6 +8,7 @@ use crate::labels::{self, Forbidden};
 use crate::layout::*;
 use crate::numbers::{ACCEPTED, POLICY_BAD};
 use crate::policy::{Policy, Url};
+use crate::rules::Documents;
 use crate::seen::Event;
 
 /// The journey is empty, longer than 16, or names a URL without a row.
@@ -139,8 +140,8 @@ impl Journey {
         let tag = self.policy.connection(connection);
         let url = self.url(place);
         match place {
-            0 => labels::check(&labels::load(tag, url)),
-            _ => labels::check(&labels::redirect(tag, url)),
+            0 => labels::check(&labels::load(&Documents, tag, url)),
+            _ => labels::check(&labels::redirect(&Documents, tag, url)),
         }
     }
 

@@ -5,6 +5,7 @@ use crate::endpoint::{Endpoint, EndpointSet};
 use crate::numbers::{READERS_FORBID, WRITERS_FORBID};
 use crate::policy::{ConnectionTag, Policy, Url};
 use crate::record::{Kind, Record};
+use crate::rules::Rules;
 use crate::seen::Event;
 
 /// One condition; it holds where no endpoint is lacking.
@@ -45,20 +46,20 @@ pub fn check(conditions: &[Condition]) -> Result<(), Forbidden> {
 
 /// The conditions of a record whose numbers were checked, in the order in which
 /// they are asked. A response has none.
-pub fn conditions(record: &Record, policy: &Policy) -> Vec<Condition> {
+pub fn conditions(rules: &dyn Rules, record: &Record, policy: &Policy) -> Vec<Condition> {
     let tag = policy.connection(record.connection);
     match record.kind {
-        Kind::Load => load(tag, policy.known_url(record.url)).into(),
-        Kind::Redirect => redirect(tag, policy.known_url(record.target)).into(),
+        Kind::Load => load(rules, tag, policy.known_url(record.url)).into(),
+        Kind::Redirect => redirect(rules, tag, policy.known_url(record.target)).into(),
         Kind::Response(_) => Vec::new(),
     }
 }
 
 /// The connection's readers are within the URL's readers; the URL's message
 /// endpoint is in the connection's writers.
-pub fn load(tag: &ConnectionTag, url: &Url) -> [Condition; 2] {
+pub fn load(rules: &dyn Rules, tag: &ConnectionTag, url: &Url) -> [Condition; 2] {
     [
-        readers(Event::ReadersLoad, tag.readers_missing(url)),
+        readers(Event::ReadersLoad, rules.fit_readers(tag, url)),
         writers(Event::WritersLoad, tag.message_missing(url)),
     ]
 }
@@ -66,12 +67,15 @@ pub fn load(tag: &ConnectionTag, url: &Url) -> [Condition; 2] {
 /// The target's event endpoint is in the connection's readers, and these are
 /// within the target's readers; its message endpoint is in the connection's
 /// writers, and the target admits these.
-pub fn redirect(tag: &ConnectionTag, target: &Url) -> [Condition; 4] {
+pub fn redirect(rules: &dyn Rules, tag: &ConnectionTag, target: &Url) -> [Condition; 4] {
     [
-        readers(Event::ReadersRedirectEvent, tag.event_missing(target)),
-        readers(Event::ReadersRedirect, tag.readers_missing(target)),
+        readers(
+            Event::ReadersRedirectEvent,
+            rules.redirect_event(tag, target),
+        ),
+        readers(Event::ReadersRedirect, rules.fit_readers(tag, target)),
         writers(Event::WritersRedirectMessage, tag.message_missing(target)),
-        writers(Event::WritersRedirect, tag.writers_missing(target)),
+        writers(Event::WritersRedirect, rules.redirect_writers(tag, target)),
     ]
 }
 

@@ -1,7 +1,8 @@
 //! The monitor in plain Rust, from document 01: it shares no definition and no
 //! code with the proof.
 //!
-//! [`feed`] follows the document rule by rule. [`feed_fast`] gives the same
+//! [`feed`] follows the document rule by rule, and [`feed_by`] other rules than
+//! its own about readers and writers. [`feed_fast`] gives the same
 //! results without allocation and is tuned for speed. [`walk`] is the
 //! program walk. [`tally`] counts the requests of a list, [`tally_fast`] does
 //! the same in one pass, and [`tally_text`] is the program tally. [`import`]
@@ -42,6 +43,7 @@ mod record;
 mod request;
 mod request_record;
 mod request_step;
+mod rules;
 mod seen;
 mod state;
 mod tally;
@@ -50,6 +52,7 @@ mod tally_seen;
 mod upgrade;
 mod walk;
 
+pub use endpoint::EndpointSet;
 pub use fast::feed_fast;
 pub use import::{
     import, import_noting, Imported, HOST_UNKNOWN, IMPORT_BYTES, NAMES_BYTES, NAME_BYTES, NO_KEY,
@@ -65,7 +68,9 @@ pub use journey::{
 pub use journey_fast::journey_find_fast;
 pub use journey_seen::{JourneyEvent, JourneySeen};
 pub use journey_text::{journey_text, urls_of};
-pub use monitor::{feed, feed_noting};
+pub use monitor::{feed, feed_by, feed_noting};
+pub use policy::{ConnectionTag, CookieTag, Url};
+pub use rules::{Documents, Rules};
 pub use seen::{Event, Seen};
 pub use tally::{tally, tally_noting, tally_text, Tally, LIST_BAD, LIST_BYTES};
 pub use tally_fast::tally_fast;

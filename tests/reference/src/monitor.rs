@@ -7,9 +7,10 @@ use crate::labels::{self, Condition, Forbidden};
 use crate::layout::*;
 use crate::missing;
 use crate::numbers::*;
-use crate::policy::{ConnectionTag, Policy};
+use crate::policy::{ConnectionTag, CookieTag, Policy};
 use crate::record::{self, Kind, Record};
 use crate::request::write_request;
+use crate::rules::{Documents, Rules};
 use crate::seen::{Event, Seen};
 use crate::state::{Pending, State};
 use crate::upgrade::{self, Upgrade};
@@ -23,7 +24,21 @@ pub fn feed(
     record: &[u8],
     out: &mut [u8],
 ) -> Answer {
-    feed_noting(policy, scripts, state, record, out, &mut Seen::new())
+    feed_by(&Documents, policy, scripts, state, record, out)
+}
+
+/// Feeds one record as these rules have it: a monitor that leaves a condition
+/// out, for tests that must tell it from this one.
+pub fn feed_by(
+    rules: &dyn Rules,
+    policy: &[u32],
+    scripts: &[u8],
+    state: &mut [u32],
+    record: &[u8],
+    out: &mut [u8],
+) -> Answer {
+    let mut seen = Seen::new();
+    answer(rules, policy, scripts, state, record, out, &mut seen)
 }
 
 /// Feeds one record and notes what happened.
@@ -35,7 +50,19 @@ pub fn feed_noting(
     out: &mut [u8],
     seen: &mut Seen,
 ) -> Answer {
-    match judge(policy, scripts, state, record, out, seen) {
+    answer(&Documents, policy, scripts, state, record, out, seen)
+}
+
+fn answer(
+    rules: &dyn Rules,
+    policy: &[u32],
+    scripts: &[u8],
+    state: &mut [u32],
+    record: &[u8],
+    out: &mut [u8],
+    seen: &mut Seen,
+) -> Answer {
+    match judge(rules, policy, scripts, state, record, out, seen) {
         Err(refusal) => {
             seen.note(refusal.clause);
             Answer {
@@ -86,18 +113,19 @@ impl From<Forbidden> for Refusal {
 }
 
 /// The monitor's numbers, first that applies.
-fn judge(
+fn judge<'a>(
+    rules: &'a dyn Rules,
     policy: &[u32],
     scripts: &[u8],
     state: &[u32],
     record: &[u8],
     out: &[u8],
     seen: &mut Seen,
-) -> Result<Accepted, Refusal> {
+) -> Result<Accepted<'a>, Refusal> {
     check_output(out).map_err(refuse(OUTPUT_SHORT))?;
     let policy = Policy::read(policy).map_err(refuse(POLICY_BAD))?;
     check_scripts(scripts).map_err(refuse(SCRIPTS_BAD))?;
-    let state = State::read(state, &policy).map_err(refuse(STATE_UNSOUND))?;
+    let state = State::read(rules, state, &policy).map_err(refuse(STATE_UNSOUND))?;
     record::check_map(record).map_err(refuse(KIND_UNKNOWN))?;
     record::check_key_map(record).map_err(refuse(KEY_MAP_EMPTY))?;
     record::check_length(record).map_err(refuse(CUT_OR_TOO_LONG))?;
@@ -106,10 +134,11 @@ fn judge(
     let record = record::upgraded(&named, &policy);
     record::check_numbers(&record, &policy).map_err(refuse(NAME_UNKNOWN))?;
     check_match(&record, &state, &policy).map_err(refuse(NOT_AWAITED))?;
-    let conditions = labels::conditions(&record, &policy);
-    note_labels(&record, &named, &conditions, &policy, seen);
+    let conditions = labels::conditions(rules, &record, &policy);
+    note_labels(rules, [&record, &named], &conditions, &policy, seen);
     labels::check(&conditions)?;
     Ok(Accepted {
+        rules,
         policy,
         state,
         record,
@@ -179,8 +208,8 @@ fn upgrade_of(kind: Kind) -> &'static Upgrade {
 /// What labels say of the record, by its conditions, and of the one that was
 /// named where that is another.
 fn note_labels(
-    record: &Record,
-    named: &Record,
+    rules: &dyn Rules,
+    [record, named]: [&Record; 2],
     conditions: &[Condition],
     policy: &Policy,
     seen: &mut Seen,
@@ -190,7 +219,7 @@ fn note_labels(
     let judged = checked.map_err(clause);
     missing::note(conditions, seen);
     if record != named {
-        let row = labels::check(&labels::conditions(named, policy));
+        let row = labels::check(&labels::conditions(rules, named, policy));
         missing::note_row(checked, row, seen);
         upgrade_of(record.kind).note(judged, row.map_err(clause), seen);
     }
@@ -215,7 +244,8 @@ fn note_labels(
 }
 
 /// A record that no number refuses, and what it works on.
-struct Accepted {
+struct Accepted<'a> {
+    rules: &'a dyn Rules,
     policy: Policy,
     state: State,
     record: Record,
@@ -224,7 +254,7 @@ struct Accepted {
     output: Vec<u8>,
 }
 
-impl Accepted {
+impl Accepted<'_> {
     /// Does what the record does and gives the steps run.
     fn carry_out(&mut self, scripts: &[u8], seen: &mut Seen) -> u32 {
         self.note_kind(seen);
@@ -305,6 +335,7 @@ impl Accepted {
         seen: &mut Seen,
     ) -> u32 {
         let mut interpreter = Interpreter {
+            rules: self.rules,
             policy: &self.policy,
             state: &mut self.state,
             output: &mut self.output,
@@ -323,7 +354,7 @@ impl Accepted {
         let host = self.policy.known_url(self.record.url).host();
         let tag = self.policy.connection(self.record.connection);
         for &(key, value) in &self.record.cookies {
-            let event = judge_cookie(&self.policy, tag, host, key);
+            let event = judge_cookie(self.rules, tag, self.policy.cookie(host, key));
             seen.note(event);
             if event == Event::CookieStored {
                 self.state.store(host, key, value);
@@ -336,7 +367,14 @@ impl Accepted {
     /// whether it carries cookies.
     fn request(&mut self, seen: &mut Seen) -> bool {
         let number = self.record.connection;
-        let carried = write_request(&self.policy, &self.state, number, &mut self.output, seen);
+        let carried = write_request(
+            self.rules,
+            &self.policy,
+            &self.state,
+            number,
+            &mut self.output,
+            seen,
+        );
         self.note_cookies(seen);
         !carried.is_empty()
     }
@@ -398,12 +436,11 @@ impl Accepted {
 
 /// A delivered cookie is stored if its readers are within the connection's
 /// readers and the connection's writers within its writers.
-fn judge_cookie(policy: &Policy, tag: &ConnectionTag, host: usize, key: usize) -> Event {
-    let cookie = policy.cookie(host, key);
-    if !cookie.readers.within(tag.readers) {
+fn judge_cookie(rules: &dyn Rules, tag: &ConnectionTag, cookie: &CookieTag) -> Event {
+    if !rules.store_readers(tag, cookie) {
         return Event::CookiePassedReaders;
     }
-    if !tag.writers.within(cookie.writers) {
+    if !rules.store_writers(tag, cookie) {
         return Event::CookiePassedWriters;
     }
     Event::CookieStored

@@ -3,12 +3,14 @@
 use crate::entry;
 use crate::layout::*;
 use crate::policy::{CookieTag, Policy, Url};
+use crate::rules::Rules;
 use crate::seen::{Event, Seen};
 use crate::state::State;
 
 /// Appends the request for what is pending on the connection. Gives the
 /// cookies that it carries.
 pub fn write_request(
+    rules: &dyn Rules,
     policy: &Policy,
     state: &State,
     connection: usize,
@@ -19,7 +21,7 @@ pub fn write_request(
     let url = policy
         .url(pending.url)
         .expect("an open connection has a URL");
-    let cookies = carried(policy, state, url, seen);
+    let cookies = carried(rules, policy, state, url, seen);
     let map = pending.kind.request_map();
     let numbers = [pending.url as u8, connection as u8];
     if cookies.is_empty() {
@@ -42,13 +44,19 @@ pub fn write_request(
 
 /// A request carries every present cookie of the URL's host whose readers
 /// hold the URL's message endpoint.
-fn carried(policy: &Policy, state: &State, url: &Url, seen: &mut Seen) -> Vec<(usize, u32)> {
+fn carried(
+    rules: &dyn Rules,
+    policy: &Policy,
+    state: &State,
+    url: &Url,
+    seen: &mut Seen,
+) -> Vec<(usize, u32)> {
     let mut cookies = Vec::new();
     for key in 0..KEYS {
         let tag = policy.cookie(url.host(), key);
         match state.cookie(url.host(), key) {
             None => seen.note(Event::NotCarriedAbsent),
-            Some(_) if !tag.readers.holds(url.message_endpoint()) => {
+            Some(_) if !rules.carry(tag, url) => {
                 seen.note(Event::NotCarriedReaders);
                 entry::note(url, Event::NotCarriedReadersEntry, seen);
             }

@@ -1,6 +1,7 @@
 //! What can happen while a record is fed, and counts of it.
 
 /// A list of events, and the type that counts them.
+#[macro_export]
 macro_rules! events {
     (enum $events:ident counted in $seen:ident; $($event:ident: $name:literal,)*) => {
         /// One thing that can happen.

@@ -3,6 +3,7 @@
 use crate::kind::ConnectionKind;
 use crate::layout::*;
 use crate::policy::{ConnectionTag, Policy};
+use crate::rules::Rules;
 use crate::seen::Event;
 
 /// What an open connection waits for. Only a script's request has an origin
@@ -38,7 +39,7 @@ pub struct State {
 
 impl State {
     /// Reads the words; the error is the clause that is broken.
-    pub fn read(words: &[u32], policy: &Policy) -> Result<State, Event> {
+    pub fn read(rules: &dyn Rules, words: &[u32], policy: &Policy) -> Result<State, Event> {
         if words.len() != STATE_WORDS {
             return Err(Event::StateLength);
         }
@@ -50,7 +51,8 @@ impl State {
         let mut pending = Vec::new();
         for number in 0..CONNECTIONS {
             let word = words[STATE_CONNECTIONS + number];
-            pending.push(read_pending(word, policy.connection(number), policy)?);
+            let tag = policy.connection(number);
+            pending.push(read_pending(rules, word, tag, policy)?);
         }
         Ok(State { cookies, pending })
     }
@@ -97,7 +99,12 @@ fn read_host(values: &[u32], present: u32) -> Result<Vec<Option<u32>>, Event> {
 }
 
 /// The word is kind × 16,777,216 + origin × 65,536 + handler × 256 + URL.
-fn read_pending(word: u32, tag: &ConnectionTag, policy: &Policy) -> Result<Option<Pending>, Event> {
+fn read_pending(
+    rules: &dyn Rules,
+    word: u32,
+    tag: &ConnectionTag,
+    policy: &Policy,
+) -> Result<Option<Pending>, Event> {
     let [number, origin, handler, url] = word.to_be_bytes().map(usize::from);
     if number == 0 {
         return match word {
@@ -111,7 +118,7 @@ fn read_pending(word: u32, tag: &ConnectionTag, policy: &Policy) -> Result<Optio
         origin,
         handler,
     };
-    check_pending_url(url, tag, policy)?;
+    check_pending_url(rules, url, tag, policy)?;
     match pending.kind {
         ConnectionKind::Document => check_unhandled(
             pending,
@@ -129,12 +136,17 @@ fn read_pending(word: u32, tag: &ConnectionTag, policy: &Policy) -> Result<Optio
 }
 
 /// Its URL names a non-empty row that the connection fits.
-fn check_pending_url(number: usize, tag: &ConnectionTag, policy: &Policy) -> Result<(), Event> {
+fn check_pending_url(
+    rules: &dyn Rules,
+    number: usize,
+    tag: &ConnectionTag,
+    policy: &Policy,
+) -> Result<(), Event> {
     if number >= URLS {
         return Err(Event::StateUrlAbove);
     }
     let url = policy.url(number).ok_or(Event::StateUrlEmpty)?;
-    if !tag.readers_fit(url) {
+    if !rules.fit_readers(tag, url).is_empty() {
         return Err(url.clause(Event::StateUrlReaders, Event::StateUrlReadersEntry));
     }
     if !tag.writers_fit(url) {
