@@ -14,9 +14,11 @@
  *         send_requests(out, answer.bytes);
  *     }
  *
- * What the monitor promises about secrecy it promises for a session as a whole: from a state of zeros on, the same policy and the same script
- * table throughout, and a state that nobody else writes between calls. It is a promise about the requests and the state. The answer is
- * for the caller alone: its members may depend on what others must not learn.
+ * What the monitor promises of secrecy and integrity it promises for a session as a whole: from a state of zeros on, the same policy and the
+ * same script table throughout, and a state that nobody else writes between calls. Secrecy: what has none of a set of endpoints among its
+ * readers does not show to that set, in requests and state. Integrity: what has some of a set among its writers does not reach the requests to
+ * URLs that have none of it among theirs and are no entries; it neither causes, changes nor prevents one (docs/PROVED.md). The answer is for
+ * the caller alone: its members may depend on what others must not learn.
  *
  * Words are in the machine's byte order. A host is 0 to 15; an address is 0 to 31, http at host a for a below 16 and https at host a - 16
  * from there on. Each address is an endpoint. A set of endpoints is a word: bit a stands for endpoint a. A set is within another where each

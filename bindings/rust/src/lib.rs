@@ -68,11 +68,13 @@
 //! assert!(feed(&policy, &scripts, &mut state, &[0x03, 0, 0], &mut out).is_ok());
 //! ```
 //!
-//! # Secrecy
+//! # Secrecy and integrity
 //!
-//! What the monitor promises about secrecy it promises for a session as a whole: from a state of zeros on, the same policy and the same
-//! script table throughout, and a state that nobody else writes between calls. It is a promise about the requests and the state. What
-//! [`feed`] answers is for the caller alone: it may depend on what others must not learn.
+//! What the monitor promises of secrecy and integrity it promises for a session as a whole: from a state of zeros on, the same policy and
+//! the same script table throughout, and a state that nobody else writes between calls. Secrecy: what has none of a set of endpoints
+//! among its readers does not show to that set, in requests and state. Integrity: what has some of a set among its writers does not reach
+//! the requests to URLs that have none of it among theirs and are no entries; it neither causes, changes nor prevents one. What [`feed`]
+//! answers is for the caller alone: it may depend on what others must not learn.
 //!
 //! # Buffers
 //!
