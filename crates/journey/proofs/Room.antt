@@ -1,26 +1,16 @@
 -- How much room the pieces of a line take at most, and what is printed by what is answered.
-use Rattle.prelude.proofs.Kit.{ℕ, _≤_, _<_, _+_, _-_, _*_, add-one, arith, true, Bool, false, cond, List, [], _++_, _≡_, sym, _∙_, refl, ap, ap₂, length, length-append, getD, eqb, eq-eqb, ne-eqb}
+use Rattle.prelude.proofs.Kit.{ℕ, _≤_, _+_, arith, true, Bool, false, cond, List, _++_, _≡_, sym, _∙_, ap, ap₂, length, length-append, getD, eqb, eq-eqb, ne-eqb}
 use Rattle.prelude.specs.Refusals.{accepted}
 use Rattle.prelude.proofs.Choices.{is-false}
-use Rattle.text.specs.Text.{ascii, decimal, Wrote}
+use Rattle.text.specs.Text.{ascii, decimal}
 use Rattle.text.proofs.Decimals.{decimal-ten, number-room}
-use Rattle.text.proofs.Writing.{wrote-then}
 use Rattle.machine.specs.Policy.{connections}
 use Rattle.machine.specs.Machine.{readersForbid, Verdict}
-use Rattle.transcript.specs.Input.{policyBytes, policyOf}
 use Rattle.journeys.specs.declared.Found.{Found}
 use Rattle.journeys.specs.Journey.{urlAt, judged, carries, found, failsAt}
 use Rattle.journeys.specs.Given.{Journey}
 use Rattle.journeys.proofs.Guarantees.{asked-given, carries-none, none-is-told}
-use Rattle.journey.specs.Report.{policyIn, ofUrl, labelled, headText, placeText, setText, ownerText, lackText, whyText, failureText, failuresBelow, noneText, refusalText, foundText, report, NoneCarries, lineRoom}
-
--- the policy of an input, by its length
-module _ (input : List ℕ) where
-  pub policy-there : length input ≡ policyBytes → policyOf input ≡ policyIn input
-  policy-there e = rw (eq-eqb (length input) policyBytes e)
-
-  pub policy-not-there : (length input ≡ policyBytes → ⊥) → [] ≡ policyIn input
-  policy-not-there ne = rw (ne-eqb (length input) policyBytes ne)
+use Rattle.journey.specs.Report.{ofUrl, labelled, headText, placeText, setText, ownerText, lackText, whyText, failureText, noneText, refusalText, foundText, report, NoneCarries, lineRoom}
 
 -- words and a number
 pub labelled-room : (words : List ℕ) (n : ℕ) → length (words ++ decimal n) ≤ length words + 10
@@ -77,7 +67,7 @@ why-room c u nth count v b asked =
     )
 
 module _ (p urls : List ℕ) where
-  line-room : (c : ℕ) → length (failureText p urls c) ≤ lineRoom
+  pub line-room : (c : ℕ) → length (failureText p urls c) ≤ lineRoom
   unfolding failureText
   line-room c =
       let i = failsAt p urls c in
@@ -89,35 +79,6 @@ module _ (p urls : List ℕ) where
       → whyText c (getD urls i 0) (i + 1) (length urls) v b asked ≡ failureText p urls c
   unfolding failureText
   line-is c i v b asked e f g h = rw (h, g, f, e)
-
-  -- ---- the lines, one after another: those of the connections below one are written, and there is room for the others
-
-  pub record Listing (before : List ℕ) (start : ℕ) (text : List ℕ) (at c : ℕ) : Type 0 where
-    pub below : c ≤ connections
-    pub room : at + lineRoom * (connections - c) ≤ length before
-    pub long : length text ≡ length before
-    pub wrote : Wrote before start (failuresBelow p urls c) text at
-
-  pub listing-begins : (text : List ℕ) (at : ℕ) → at + lineRoom * connections ≤ length text → Listing text at text at 0
-  unfolding failuresBelow
-  listing-begins text at l = record { below = omega arith; room = l; long = refl; wrote = record { place = omega arith; within = omega arith; written = refl } }
-
-  module _ {before text : List ℕ} {start at c : ℕ} (r : Listing before start text at c) where
-    pub room-here : c < connections → at + lineRoom ≤ length text
-    room-here l = omega (arith, r .room, r .long, l)
-
-    pub listing-goes-on : {after : List ℕ} {next : ℕ} → c < connections → length after ≡ length text → Wrote text at (failureText p urls c) after next
-        → Listing before start after next (c + 1)
-    unfolding failuresBelow
-    listing-goes-on l e w = record {
-      below = omega (arith, l);
-      room = omega (arith, r .room, w .place, line-room c, l);
-      long = e ∙ r .long;
-      wrote = rw (add-one c) (wrote-then (r .wrote) w);
-    }
-
-    pub listing-ends : c ≡ connections → Wrote before start (failuresBelow p urls connections) text at
-    listing-ends e = rw e at (r .wrote)
 
   -- ---- what is printed
 

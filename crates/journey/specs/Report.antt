@@ -1,6 +1,6 @@
 -- What journey prints: the connection that carries a journey; or `none`, and for each connection the first URL that it does not take, and why; or a
 -- refusal.
-use Prim.Native.Nat.{ℕ, zero, suc, _+_, _*_, _<_}
+use Prim.Native.Nat.{ℕ, _+_, _*_, _<_}
 use Prim.Native.String.{String}
 use mathlib.Core.Bool.{Bool, false, not, cond}
 use mathlib.Core.List.{List, [], _∷_, _++_}
@@ -8,16 +8,12 @@ use mathlib.Core.Path.{_≡_}
 use lib.Dec.{eqb}
 use lib.ListN.{length, getD}
 use Rattle.prelude.specs.Refusals.{accepted}
-use Rattle.text.specs.Text.{ascii, decimal}
+use Rattle.text.specs.Text.{ascii, decimal, piecesBelow}
 use Rattle.machine.specs.Policy.{connections, fitMissingReader, fitMissingWriter}
 use Rattle.machine.specs.Machine.{readersForbid, policyBad, Verdict}
-use Rattle.transcript.specs.Input.{policyBytes, policyOf}
+use Rattle.transcript.specs.Input.{policyIn}
 use Rattle.journeys.specs.declared.Found.{Found}
 use Rattle.journeys.specs.Journey.{urlAt, judged, carries, found, failsAt}
-
--- the policy of an input; one of another length has no words
-abbrev pub policyIn : List ℕ → List ℕ
-policyIn input = cond (eqb (length input) policyBytes) (policyOf input) []
 
 -- ---- why a connection fails
 
@@ -61,11 +57,6 @@ failureText p urls c =
     let v = judged p urls c i in
     whyText c (getD urls i 0) (i + 1) (length urls) v (ofUrl p c (urlAt p urls i) v) (urlAt p urls i)
 
--- of the connections below a number, in rising order
-unfoldable pub failuresBelow : List ℕ → List ℕ → ℕ → List ℕ
-failuresBelow p urls zero = []
-failuresBelow p urls (suc n) = failuresBelow p urls n ++ failureText p urls n
-
 -- ---- all that is printed
 
 abbrev pub refusalText : ℕ → List ℕ
@@ -73,8 +64,9 @@ refusalText n =
     cond (eqb n policyBad) (ascii "refused 2: the policy has the wrong length or is not well formed\n")
     (ascii "refused 17: the journey is empty, longer than 16 URLs, or names a URL without a row\n")
 
+-- a line for each connection, in rising order
 abbrev pub noneText : List ℕ → List ℕ → List ℕ
-noneText p urls = ascii "none\n" ++ failuresBelow p urls connections
+noneText p urls = ascii "none\n" ++ piecesBelow connections (failureText p urls)
 
 abbrev pub foundText : List ℕ → List ℕ → Found → List ℕ
 foundText p urls r =

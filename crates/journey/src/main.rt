@@ -2,7 +2,7 @@
 ghost use mathlib.Core.Path.{_≡_};
 ghost use Prim.Native.Nat.{_≤_};
 ghost use lib.ListN.{length};
-ghost use Rattle.journey.specs.Report.{policyIn, printed};
+ghost use Rattle.journey.specs.Report.{printed};
 
 mod report;
 
@@ -14,13 +14,11 @@ use report::REPORT_BYTES;
 use report::write_report;
 use text::digits::Value;
 use text::digits::read_number;
-use transcript::POLICY_BYTES;
-use transcript::policy_words;
+use transcript::POLICY_INPUT_ROOM;
+use transcript::read_policy;
 
-// One more than a journey may have, so that a longer one is seen; and so with the bytes of a policy.
+// One more than a journey may have, so that a longer one is seen.
 const URLS_ROOM: usize = MOST_URLS + 1;
-
-const INPUT_ROOM: usize = POLICY_BYTES + 1;
 
 // The first argument is the program's own name.
 const FIRST_URL: usize = 1;
@@ -37,7 +35,7 @@ fn main() {
         print_usage();
         return;
     }
-    let mut input = [0u8; INPUT_ROOM];
+    let mut input = [0u8; POLICY_INPUT_ROOM];
     let n = io::read_full(STDIN_FILENO, &mut input);
     find(&input[..n], &urls[..count]);
 }
@@ -96,20 +94,10 @@ fn put(urls: &mut [u8], end: usize, url: u32) -> usize
 }
 
 fn find(input: &[u8], urls: &[u8]) {
-    if input.len() == POLICY_BYTES {
-        let policy = policy_words(input);
-        find_in(input, &policy, urls);
-        return;
-    }
-    let none = [0u32; 1];
-    find_in(input, &none[..0], urls);
-}
-
-fn find_in(input: &[u8], policy: &[u32], urls: &[u8])
-    requires { ⌜ now policy ≡ policyIn (now input) ⌝ }
-{
+    let policy = read_policy(input);
+    let words = policy.words;
     let mut text = [0u8; REPORT_BYTES];
-    let end = write_report(&mut text, policy, urls);
+    let end = write_report(&mut text, &words[..policy.count], urls);
     print(input, urls, &text[..end]);
 }
 

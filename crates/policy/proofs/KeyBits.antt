@@ -10,6 +10,7 @@ use lib.Pow.{pow-pos, mod-pow-add, pow-lt, pow-mono}
 use mir.Val.{boolByte}
 use Rattle.prelude.specs.Choice.{branch}
 use Rattle.prelude.proofs.Bits.{half-bit}
+use Rattle.prelude.proofs.Choices.{as-digit}
 use Rattle.machine.specs.Policy.{hostKeys}
 use Rattle.machine.specs.Session.{has, mapBelow, keyMap}
 use Rattle.machine.proofs.KeyMaps.{has-map, map-below}
@@ -111,17 +112,12 @@ map-next (suc n) test = rw (add-one, pow-suc 2 n) (omega (arith, rw add-one at (
 
 pub added : (n keys : ℕ) (test : ℕ → Bool) (b : Bool) → n < hostKeys → keys ≡ mapBelow n test → b ≡ test n
     → keys + boolByte b * 2 ^ n % 4294967296 ≡ mapBelow (n + 1) test
-unfolding branch
 added n keys test b l e t =
     rw (e, mod-eq-of-lt (lt-of-le-of-lt (small b) (lt-trans (pow-lt l) (lit< tt))), as-digit b, t) (map-next n test)
   where
     small : (b : Bool) → boolByte b * 2 ^ n ≤ 2 ^ n
     small true = omega arith
     small false = omega arith
-
-    as-digit : (b : Bool) → boolByte b ≡ branch b 1 0
-    as-digit true = refl
-    as-digit false = refl
 
 pub map-small : (n : ℕ) (test : ℕ → Bool) → n ≤ hostKeys → mapBelow n test < 256
 map-small n test l = lt-of-lt-of-le (map-below n test) (pow-mono l)

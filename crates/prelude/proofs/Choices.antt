@@ -2,6 +2,7 @@
 use Rattle.prelude.proofs.Kit.{true, _&&_, Bool, false, not, true≢false, false≢true, List, _∷_, [], _++_, map, _≡_, sym, _∙_, refl}
 use Rattle.prelude.proofs.Kit.{ap, T, and-i, and-r, and-l, _≤_, suc, arith, length}
 use mathlib.Core.Logic.{_⊎_, inl, inr}
+use mir.Val.{boolByte}
 use Rattle.prelude.specs.Choice.{branch, keep}
 
 -- a test passes or fails
@@ -55,6 +56,12 @@ module _ {A : Type 0} where
   unfolding branch
   one P true f g = f tt
   one P false f g = g tt
+
+-- a truth value, as code adds it
+pub as-digit : (b : Bool) → boolByte b ≡ branch b 1 0
+unfolding branch
+as-digit true = refl
+as-digit false = refl
 
 -- what code that goes by a test's value has made, where the test passed and where it failed
 pub chosen : {A : Type 0} (r b : Bool) (x y : A) {z : A} → r ≡ b → r ≡ true → z ≡ x → z ≡ branch b x y

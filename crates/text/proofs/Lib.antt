@@ -1,3 +1,4 @@
 pub mod Decimals
 pub mod Writing
 pub mod Reading
+pub mod Pieces

@@ -51,6 +51,11 @@ line [] = newline ∷ []
 line (word ∷ []) = word ++ (newline ∷ [])
 line (word ∷ next ∷ words) = (word ++ (space ∷ [])) ++ line (next ∷ words)
 
+-- the texts of the numbers below a bound, one after another
+unfoldable pub piecesBelow : ℕ → (ℕ → List ℕ) → List ℕ
+piecesBelow zero piece = []
+piecesBelow (suc n) piece = piecesBelow n piece ++ piece n
+
 -- Bytes were written at the front of a text, which goes on as it was; `count` is how many.
 abbrev pub AtFront : List ℕ → List ℕ → List ℕ → ℕ → Type 0
 AtFront bytes before after count = (count ≡ length bytes) × (after ≡ bytes ++ drop (length bytes) before)

@@ -1,9 +1,10 @@
--- The loop over the policy's words: what is left to read from a word on makes the whole.
-use Rattle.prelude.proofs.Kit.{ℕ, _≤_, _<_, _+_, _-_, suc, _*_, add-one, arith, List, _∷_, [], _++_, append-assoc, append-nil, _≡_, sym}
-use Rattle.prelude.proofs.Kit.{_∙_, refl, ap, length, take, drop, set, length-set, take-all, drop-drop}
+-- The loop over the policy's words: what is left to read from a word on makes the whole. And the policy of an input, by its length.
+use Rattle.prelude.proofs.Kit.{ℕ, _≤_, _<_, _+_, _-_, suc, zero, _*_, add-one, arith, List, _∷_, [], _++_, append-assoc, append-nil, _≡_, sym}
+use Rattle.prelude.proofs.Kit.{_∙_, refl, ap, length, take, drop, set, length-set, take-all, drop-drop, eq-eqb, ne-eqb}
 use lib.Seq.{take-suc-set}
 use Rattle.records.specs.Bytes.{number}
-use Rattle.transcript.specs.Input.{wordsOf}
+use Rattle.machine.specs.Policy.{policyWords}
+use Rattle.transcript.specs.Input.{policyBytes, wordsOf, policyOf, policyIn}
 
 -- the words from the i-th on: that one, and the rest
 words-from : (n i : ℕ) (input : List ℕ) → i < n
@@ -46,3 +47,21 @@ module _ (n : ℕ) (input words : List ℕ) where
   reading-ends i e r =
       let none : n - i ≡ 0 = omega arith in
       rw (none, none-left (drop (4 * i) input), append-nil (take i words), take-all i words (omega (arith, r .long))) at (r .remains)
+
+-- ---- an input that is nothing but a policy
+
+words-long : (n : ℕ) (bytes : List ℕ) → length (wordsOf n bytes) ≡ n
+unfolding wordsOf
+words-long zero bytes = refl
+words-long (suc n) bytes = ap suc (words-long n (drop 4 bytes))
+
+module _ (input : List ℕ) where
+  pub policy-there : (words : List ℕ) → length input ≡ policyBytes → words ≡ policyOf input
+      → (take policyWords words ≡ policyIn input) × (policyWords ≤ length words)
+  policy-there words e f =
+      let long : length words ≡ policyWords = ap length f ∙ words-long policyWords input in
+      let there : policyIn input ≡ policyOf input = rw (eq-eqb (length input) policyBytes e) in
+      (take-all policyWords words (omega (arith, long)) ∙ f ∙ sym there, omega (arith, long))
+
+  pub policy-not-there : (length input ≡ policyBytes → ⊥) → [] ≡ policyIn input
+  policy-not-there ne = rw (ne-eqb (length input) policyBytes ne)

@@ -1,4 +1,5 @@
--- What walk reads (document 01, "Program walk"): policy words, script table, then records, each after one length byte. journey reads a policy so too.
+-- What walk reads (document 01, "Program walk"): policy words, script table, then records, each after one length byte. journey
+-- and reach read a policy so too.
 use Prim.Native.Nat.{ℕ, zero, suc, _+_, _-_, _*_}
 use mathlib.Core.Bool.{cond}
 use mathlib.Core.List.{List, [], _∷_}
@@ -36,6 +37,10 @@ wordsOf (suc n) bytes = number (take 4 bytes) ∷ wordsOf n (drop 4 bytes)
 
 abbrev pub policyOf : List ℕ → List ℕ
 policyOf input = wordsOf policyWords input
+
+-- the policy of an input that is nothing else; one of another length has no words
+abbrev pub policyIn : List ℕ → List ℕ
+policyIn input = cond (eqb (length input) policyBytes) (policyOf input) []
 
 -- What is at a place: nothing more; a length byte that asks for more than follows it; or a record, whose bytes start after its length byte.
 -- A last length byte of 0 is followed by the empty record.

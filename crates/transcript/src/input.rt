@@ -3,7 +3,7 @@ ghost use mathlib.Core.Path.{_≡_};
 ghost use Prim.Native.Nat.{_+_, _<_, _≤_};
 ghost use lib.ListN.{length, take, drop};
 ghost use Rattle.records.specs.Bytes.{number};
-ghost use Rattle.transcript.specs.Input.{policyBytes, inputSize, policyOf, nextRecord};
+ghost use Rattle.transcript.specs.Input.{policyBytes, inputSize, policyOf, policyIn, nextRecord};
 use policy::words::WORDS;
 use scripts::TABLE_BYTES;
 
@@ -50,7 +50,7 @@ fn word(bytes: &[u8], at: usize) -> u32
         + wide(bytes[at + 3])
 }
 
-// The policy's words, for every program that reads one.
+// The policy's words, at the front of an input.
 pub fn policy_words(input: &[u8]) -> [u32; WORDS]
     requires { ⌜ policyBytes ≤ length (now input) ⌝ }
     ensures { λ r. ⌜ r ≡ policyOf (now (input .entry)) ⌝ }
@@ -60,6 +60,30 @@ pub fn policy_words(input: &[u8]) -> [u32; WORDS]
         words[i] = word(input, 4 * i);
     }
     words
+}
+
+// One byte more than a policy has, so that a longer input is seen.
+pub const POLICY_INPUT_ROOM: usize = POLICY_BYTES + 1;
+
+// The policy of an input that is nothing else: so many of the words, and none where the input has another length.
+pub struct PolicyRead {
+    pub words: [u32; WORDS],
+    pub count: usize,
+}
+
+pub fn read_policy(input: &[u8]) -> PolicyRead
+    ensures { λ r. ⌜ (take (r .count) (r .words) ≡ policyIn (now (input .entry))) × (r .count ≤ length (r .words)) ⌝ }
+{
+    if input.len() != POLICY_BYTES {
+        return PolicyRead {
+            words: [0; WORDS],
+            count: 0,
+        };
+    }
+    PolicyRead {
+        words: policy_words(input),
+        count: WORDS,
+    }
 }
 
 // How the records end: after a whole one, or within one.
