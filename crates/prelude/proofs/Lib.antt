@@ -4,3 +4,4 @@ pub mod Refusals
 pub mod Bits
 pub mod Lists
 pub mod Lowest
+pub mod Sums

@@ -1,3 +1,4 @@
 pub mod Choice
 pub mod Refusals
 pub mod Lists
+pub mod Sums

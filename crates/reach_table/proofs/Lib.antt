@@ -1,0 +1,4 @@
+pub mod Reaching
+pub mod Guarantees
+pub mod Loading
+pub mod Cases

@@ -1,0 +1,3 @@
+pub mod Reach
+pub mod Guarantees
+pub mod Cases
