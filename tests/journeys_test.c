@@ -9,51 +9,22 @@
 #include <stdio.h>
 #include <stdlib.h>
 #include <string.h>
-#include <sys/mman.h>
-#include <unistd.h>
 
 #include "journeys.h"
+#include "lent.h"
 #include "monitor.h"
+#include "policies.h"
 #include "random.h"
 
-enum { URLS = 64, HOSTS = 16, CONNECTIONS = 32, BYTE_VALUES = 256 };
-/* in a policy, the connections, the partners of the URLs and before these the word of https hosts */
-enum { CONNECTIONS_AT = 448, PARTNERS = MONITOR_POLICY_WORDS - URLS, HTTPS_HOSTS = PARTNERS - 1, NO_PARTNER = 255 };
+enum { BYTE_VALUES = 256 };
 /* in a state, the connections */
 enum { OPEN_AT = 144 };
-/* the most bytes that are lent, a multiple of a page, and the most words of a policy */
-enum { MOST_BYTES = 64 * 1024, MOST_WORDS = 2 * MONITOR_POLICY_WORDS };
-/* a guard has so many bytes, and what is read begins at so many places in turn */
-enum { SPARE = 64, PLACES = 16, GUARD_BYTE = 0xc5 };
-
-/* some bytes, and those of some words */
-struct span {
-    const void *at;
-    size_t size;
-};
-
-/* where a span is laid to be read */
-struct guarded {
-    uint32_t room[(SPARE + MOST_BYTES + SPARE) / 4 + PLACES];
-    uint8_t *lent;
-    size_t size;
-};
-
-/* the same memory twice: once to be written, and once to be lent, which ends where nothing can be read */
-struct pages {
-    uint8_t *written;
-    const uint8_t *lent;
-};
-
 /* the bytes of a journey, as an argument */
 #define JOURNEY(...) ((struct span){(const uint8_t[]){__VA_ARGS__}, sizeof((const uint8_t[]){__VA_ARGS__})})
 
 static struct guarded guarded_policy, guarded_journey;
 static struct pages policy_pages, journey_pages;
-/* the policy that is lent, with room for lengths that are too long */
-static uint32_t policy[MOST_WORDS];
 static const char *doing = "nothing yet";
-static unsigned long calls;
 
 static void check(bool holds, const char *what)
 {
@@ -80,49 +51,6 @@ static struct journey_found told(uint32_t connection)
 
 /* ---- calling */
 
-static bool all_are(const uint8_t *bytes, size_t size, uint8_t value)
-{
-    for (size_t i = 0; i < size; i++) {
-        if (bytes[i] != value) {
-            return false;
-        }
-    }
-    return true;
-}
-
-static bool equal(const void *bytes, struct span from)
-{
-    return from.size == 0 || memcmp(bytes, from.at, from.size) == 0;
-}
-
-static void copy(void *to, struct span from)
-{
-    if (from.size > 0) {
-        memcpy(to, from.at, from.size);
-    }
-}
-
-/* Where it begins varies, by so many bytes from call to call: those of an element. */
-static void lay(struct guarded *in, struct span from, size_t element)
-{
-    uint8_t *const room = (uint8_t *)in->room;
-    const size_t before = SPARE + calls % PLACES * element;
-    check(from.size <= MOST_BYTES, "the test's own policy or journey is too long");
-    in->lent = room + before;
-    in->size = from.size;
-    memset(room, GUARD_BYTE, before);
-    copy(in->lent, from);
-    memset(in->lent + from.size, GUARD_BYTE, SPARE);
-}
-
-static void check_kept(const struct guarded *in, struct span from)
-{
-    const uint8_t *const room = (const uint8_t *)in->room;
-    check(equal(in->lent, from), "policy or journey changed");
-    check(all_are(room, (size_t)(in->lent - room), GUARD_BYTE), "a byte before policy or journey changed");
-    check(all_are(in->lent + in->size, SPARE, GUARD_BYTE), "a byte behind policy or journey changed");
-}
-
 static struct journey_found find_guarded(struct span words, struct span urls)
 {
     lay(&guarded_policy, words, sizeof *policy);
@@ -134,18 +62,6 @@ static struct journey_found find_guarded(struct span words, struct span urls)
     return found;
 }
 
-/* No bytes have no memory at all. */
-static void *bare_copy(struct span from)
-{
-    if (from.size == 0) {
-        return NULL;
-    }
-    void *const bare = malloc(from.size);
-    check(bare != NULL, "no memory for the test");
-    copy(bare, from);
-    return bare;
-}
-
 static struct journey_found find_bare(struct span words, struct span urls)
 {
     void *const lent_policy = bare_copy(words);
@@ -155,26 +71,6 @@ static struct journey_found find_bare(struct span words, struct span urls)
     free(lent_policy);
     free(lent_journey);
     return found;
-}
-
-static struct pages map_pages(void)
-{
-    const size_t page = (size_t)sysconf(_SC_PAGESIZE);
-    FILE *const file = tmpfile();
-    check(MOST_BYTES % page == 0 && file != NULL && ftruncate(fileno(file), MOST_BYTES) == 0, "no file for the test");
-    void *const written = mmap(NULL, MOST_BYTES, PROT_READ | PROT_WRITE, MAP_SHARED, fileno(file), 0);
-    void *const lent = mmap(NULL, MOST_BYTES + page, PROT_READ, MAP_SHARED, fileno(file), 0);
-    check(written != MAP_FAILED && lent != MAP_FAILED, "no pages for the test");
-    check(mprotect((uint8_t *)lent + MOST_BYTES, page, PROT_NONE) == 0, "no page without access for the test");
-    fclose(file);
-    return (struct pages){.written = written, .lent = lent};
-}
-
-/* Where it is lent at the end of the pages. */
-static const void *at_the_end(const struct pages *in, struct span from)
-{
-    copy(in->written + MOST_BYTES - from.size, from);
-    return in->lent + MOST_BYTES - from.size;
 }
 
 /* A write, or a read past an end, ends the test by a signal. */
@@ -227,21 +123,6 @@ static bool within(uint32_t a, uint32_t b)
     return (a & ~b) == 0;
 }
 
-static const uint32_t *url_words(uint32_t url)
-{
-    return policy + 3 * url;
-}
-
-static uint32_t *connection_words(uint32_t connection)
-{
-    return policy + CONNECTIONS_AT + 3 * connection;
-}
-
-static bool is_url(uint8_t url)
-{
-    return url < URLS && url_words(url)[0] < 2 * MONITOR_ENTRY;
-}
-
 static const uint32_t *asked_for(uint8_t url)
 {
     const uint32_t partner = policy[PARTNERS + url];
@@ -292,18 +173,6 @@ static struct journey_found found_slowly(struct span urls)
 
 /* ---- what a monitor takes */
 
-static struct monitor_answer feed(uint32_t *state, const uint8_t *record, size_t size)
-{
-    static uint8_t scripts[MONITOR_SCRIPT_BYTES], out[MONITOR_OUT_BYTES];
-    return monitor_feed(policy, MONITOR_POLICY_WORDS, scripts, sizeof scripts, state, MONITOR_STATE_WORDS, record, size, out, sizeof out);
-}
-
-static bool is_well_formed(void)
-{
-    uint32_t state[MONITOR_STATE_WORDS] = {0};
-    return feed(state, NULL, 0).number != MONITOR_POLICY_BAD;
-}
-
 /* From a state of zeros. A redirect names the URL that the connection holds, which is in the lowest byte of its word. */
 static bool monitor_takes(uint8_t connection, struct span urls)
 {
@@ -342,49 +211,6 @@ static void worked(struct span urls, struct journey_found want)
     check(is_well_formed() && same(found_slowly(urls), want), "the test itself finds something else");
     check_taken(urls, want);
     gives(urls, want);
-}
-
-/* ---- making policies */
-
-/* No URL, no host that is listed, and connections that nobody reads or writes, on which nothing can be loaded. */
-static void empty_policy(void)
-{
-    memset(policy, 0, MONITOR_POLICY_WORDS * sizeof *policy);
-    for (size_t row = 0; row < URLS; row++) {
-        policy[3 * row] = 255;
-        policy[PARTNERS + row] = NO_PARTNER;
-    }
-}
-
-static void set_url(size_t url, uint32_t word, uint32_t readers, uint32_t writers)
-{
-    memcpy(policy + 3 * url, (const uint32_t[]){word, readers, writers}, 3 * sizeof *policy);
-}
-
-/* Its scripts have no readers, so that nothing depends on them. */
-static void set_connection(uint32_t connection, uint32_t readers, uint32_t writers)
-{
-    memcpy(connection_words(connection), (const uint32_t[]){readers, 0, writers}, 3 * sizeof *policy);
-}
-
-static void list_host(uint32_t host, size_t http, uint32_t https)
-{
-    policy[HTTPS_HOSTS] |= UINT32_C(1) << host;
-    policy[PARTNERS + http] = https;
-}
-
-/* Document 01's policy P. */
-static void small_post(void)
-{
-    empty_policy();
-    set_url(0, 16, 0x00010001, 0x00010000);
-    set_url(1, 1, UINT32_MAX, UINT32_MAX);
-    set_url(2, 17, UINT32_MAX, 0x00030000);
-    set_url(3, 0, 0x00010001, 0x00010001);
-    set_connection(0, 0x00010001, 0x00010000);
-    set_connection(1, UINT32_MAX, UINT32_MAX);
-    set_connection(2, 0x00010000, 0x00010000);
-    set_connection(3, 0x00010001, 0x00010001);
 }
 
 /* ---- worked journeys */
@@ -695,22 +521,16 @@ static void each_partner(void)
 
 /* ---- refusals */
 
-/* Every word of policy P with every bit changed: refused where the monitor refuses it, and found as the monitor takes it elsewhere. */
+static void found_by_http(void)
+{
+    found_as_slowly(JOURNEY(0, 3));
+}
+
+/* Refused where the monitor refuses it, and found as the monitor takes it elsewhere. */
 static void each_bit_of_the_policy(void)
 {
-    unsigned long bad = 0;
     doing = "each bit of policy P";
-    small_post();
-    list_host(0, 3, 0);
-    for (size_t word = 0; word < MONITOR_POLICY_WORDS; word++) {
-        for (unsigned bit = 0; bit < 32; bit += word < 12 || (word >= CONNECTIONS_AT && word < CONNECTIONS_AT + 12) ? 1 : 5) {
-            policy[word] ^= UINT32_C(1) << bit;
-            found_as_slowly(JOURNEY(0, 3));
-            bad += !is_well_formed();
-            policy[word] ^= UINT32_C(1) << bit;
-        }
-    }
-    check(bad > 1000, "next to nothing was refused");
+    check(with_each_bit(found_by_http) > 1000, "next to nothing was refused");
 }
 
 /* The policy is asked about first. */
@@ -738,59 +558,6 @@ static void null_pointers(void)
 }
 
 /* ---- random policies */
-
-static uint32_t below(uint32_t bound)
-{
-    return (next_random() >> 8) % bound;
-}
-
-/* Nearly everyone, or any set. */
-static uint32_t large_set(void)
-{
-    const uint32_t set = below(4) == 0 ? next_random() | next_random() | next_random() : UINT32_MAX;
-    return below(3) == 0 ? set & ~(UINT32_C(1) << below(32)) : set;
-}
-
-/* Lists hosts whose http rows can all have a partner. */
-static void list_hosts(uint32_t hosts)
-{
-    uint32_t https[HOSTS] = {0};
-    for (uint32_t row = 0; row < URLS; row++) {
-        const uint32_t word = url_words(row)[0];
-        if (word < 2 * MONITOR_ENTRY && word % MONITOR_ENTRY >= HOSTS) {
-            https[word % HOSTS] = row + 1;
-        }
-    }
-    for (uint32_t row = 0; row < URLS; row++) {
-        const uint32_t word = url_words(row)[0], host = word % HOSTS;
-        const bool is_http = word < 2 * MONITOR_ENTRY && word % MONITOR_ENTRY < HOSTS;
-        if (is_http && (hosts >> host & 1u) == 1 && https[host] != 0) {
-            list_host(host, row, https[host] - 1);
-        }
-    }
-}
-
-/* Readers of URLs are many and those of connections few, and writers are many: so a journey often comes far. */
-static void random_policy(void)
-{
-    empty_policy();
-    for (uint32_t row = 0; row < URLS; row++) {
-        const uint32_t word = below(2 * MONITOR_ENTRY);
-        if (below(8) != 0) {
-            set_url(row, word, large_set() | UINT32_C(1) << word % HOSTS, large_set());
-        }
-    }
-    const uint32_t first = below(3) == 0 ? CONNECTIONS - 1 : below(4) == 0 ? 0 : below(CONNECTIONS);
-    for (uint32_t connection = first; connection < CONNECTIONS; connection++) {
-        set_connection(connection, below(4) == 0 ? large_set() : large_set() & 0xffff, large_set());
-    }
-    if (below(2) == 0) {
-        list_hosts(next_random() >> 8);
-    }
-    if (below(16) == 0) {
-        policy[below(MONITOR_POLICY_WORDS)] ^= UINT32_C(1) << below(32);
-    }
-}
 
 static struct span random_journey(uint8_t *urls)
 {

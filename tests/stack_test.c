@@ -1,7 +1,7 @@
-/* Links libmonitor.a, libusage.a, libcookie.a and libjourneys.a: how much stack one call takes. The call runs on a stack of its own that was painted
- * before, so that what it wrote is seen afterwards; the same call of a function that does nothing is taken off. Printed for the calls that could take
- * most: the largest output, the longest script, everything that is refused, lists that are counted, lines that are read, journeys that are carried
- * or not; and bounded, so that it is seen where it grows. */
+/* Links libmonitor.a, libusage.a, libcookie.a, libjourneys.a and libreach_table.a: how much stack one call takes. The call runs on a stack of its own
+ * that was painted before, so that what it wrote is seen afterwards; the same call of a function that does nothing is taken off. Printed for the
+ * calls that could take most: the largest output, the longest script, everything that is refused, lists that are counted, lines that are read,
+ * journeys that are carried or not, reach tables; and bounded, so that it is seen where it grows. */
 #define _XOPEN_SOURCE 700
 #include <stdbool.h>
 #include <stdio.h>
@@ -12,6 +12,7 @@
 #include "cookie.h"
 #include "journeys.h"
 #include "monitor.h"
+#include "reach_table.h"
 #include "usage.h"
 
 enum { STACK_BYTES = 64 * 1024, PAINT = 0x5a, MOST = 1024, MOST_COUNTING = 2 * 1024, SENDS = 0, REGISTERS = 1, WRITES = 2 };
@@ -23,6 +24,8 @@ typedef void calls(void);
 typedef struct usage_tally counts(const uint8_t *, size_t);
 typedef struct cookie_imported imports(uint32_t, const uint8_t *, size_t, const uint8_t *, size_t);
 typedef struct journey_found finds(const uint32_t *, size_t, const uint8_t *, size_t);
+typedef struct reach_table reaches(const uint32_t *, size_t);
+typedef bool fits(const uint32_t *, size_t, uint32_t, uint32_t);
 typedef struct monitor_answer feeds(const uint32_t *, size_t, const uint8_t *, size_t, uint32_t *, size_t, const uint8_t *, size_t, uint8_t *, size_t);
 
 static uint8_t stack[STACK_BYTES];
@@ -39,6 +42,10 @@ static finds *finder;
 static struct journey_found found;
 static uint8_t urls[JOURNEY_MOST_URLS + 1];
 static size_t policy_words, journey_urls;
+static reaches *reacher;
+static struct reach_table table;
+static fits *fitter;
+static bool is_fitted;
 static uint32_t policy[MONITOR_POLICY_WORDS], state[MONITOR_STATE_WORDS];
 static uint8_t scripts[MONITOR_SCRIPT_BYTES], out[MONITOR_OUT_BYTES], record[MONITOR_LONGEST_RECORD];
 static size_t state_words, record_bytes, out_bytes;
@@ -69,6 +76,18 @@ static struct journey_found finds_nothing(const uint32_t *p, size_t pn, const ui
     return (struct journey_found){.number = 0};
 }
 
+static struct reach_table reaches_nothing(const uint32_t *p, size_t pn)
+{
+    (void)p, (void)pn;
+    return (struct reach_table){.number = 0};
+}
+
+static bool fits_nothing(const uint32_t *p, size_t pn, uint32_t c, uint32_t u)
+{
+    (void)p, (void)pn, (void)c, (void)u;
+    return false;
+}
+
 static void count(void)
 {
     tally = counter(record, record_bytes);
@@ -82,6 +101,16 @@ static void import(void)
 static void find(void)
 {
     found = finder(policy, policy_words, urls, journey_urls);
+}
+
+static void reach(void)
+{
+    table = reacher(policy, policy_words);
+}
+
+static void fit(void)
+{
+    is_fitted = fitter(policy, policy_words, REACH_CONNECTIONS - 1, REACH_URLS - 1);
 }
 
 static void feed(void)
@@ -220,6 +249,32 @@ static void measure_find(const char *name, uint32_t number, uint32_t connection)
     }
 }
 
+static void measure_reach(const char *name, uint32_t number, uint32_t all)
+{
+    reacher = reaches_nothing;
+    size_t around = depth(reach);
+    reacher = reach_count;
+    reach(); /* as above */
+    bound(name, depth(reach) - around, MOST);
+    if (table.number != number || table.all != all) {
+        fprintf(stderr, "stack: %s: answered %u %u\n", name, table.number, table.all);
+        exit(EXIT_FAILURE);
+    }
+}
+
+static void measure_fit(const char *name, bool want)
+{
+    fitter = fits_nothing;
+    size_t around = depth(fit);
+    fitter = reach_fits;
+    fit(); /* as above */
+    bound(name, depth(fit) - around, MOST);
+    if (is_fitted != want) {
+        fprintf(stderr, "stack: %s: answered %d\n", name, is_fitted);
+        exit(EXIT_FAILURE);
+    }
+}
+
 static void feeds_and_counts(void)
 {
     respond(SENDS);
@@ -282,10 +337,24 @@ static void journeys(void)
     measure_find("a journey under a policy of no words", JOURNEY_POLICY_BAD, 0);
 }
 
+static void reach_tables(void)
+{
+    everything();
+    policy_words = MONITOR_POLICY_WORDS;
+    measure_reach("a reach table: everything is reached", REACH_ACCEPTED, REACH_CONNECTIONS * REACH_URLS);
+    measure_fit("a cell of a reach table", true);
+    policy[3 * (URLS - 1) + 1] = 0;
+    measure_reach("a reach table that is refused by its form", REACH_POLICY_BAD, 0);
+    policy_words = 0;
+    measure_reach("a reach table under a policy of no words", REACH_POLICY_BAD, 0);
+    measure_fit("a cell under a policy of no words", false);
+}
+
 int main(void)
 {
     feeds_and_counts();
     lines();
     journeys();
+    reach_tables();
     return EXIT_SUCCESS;
 }

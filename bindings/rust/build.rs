@@ -1,5 +1,5 @@
-//! Tells cargo where libmonitor.a is, and where a feature is on the library of its name, libusage.a, libcookie.a or libjourneys.a: in the folder
-//! that `MONITOR_LIB_DIR` names, or where `rt staticlib` leaves them.
+//! Tells cargo where libmonitor.a is, and where a feature is on the library of its name, libusage.a, libcookie.a, libjourneys.a or libreach_table.a:
+//! in the folder that `MONITOR_LIB_DIR` names, or where `rt staticlib` leaves them.
 
 use std::env;
 use std::path::{Path, PathBuf};
@@ -13,6 +13,7 @@ fn main() {
         ("CARGO_FEATURE_USAGE", "usage"),
         ("CARGO_FEATURE_COOKIE", "cookie"),
         ("CARGO_FEATURE_JOURNEYS", "journeys"),
+        ("CARGO_FEATURE_REACH_TABLE", "reach_table"),
     ] {
         if env::var_os(feature).is_some() {
             link(name, &folder);

@@ -103,6 +103,11 @@
 //!
 //! With the feature `journeys`, the module `journeys` finds the connection of a policy on which URLs can be visited one after another: the first
 //! loaded, each further one reached by a redirect. It needs `libjourneys.a` beside `libmonitor.a`.
+//!
+//! # The reach table
+//!
+//! With the feature `reach_table`, the module `reach_table` counts how many URLs of a policy each connection reaches. It needs `libreach_table.a`
+//! beside `libmonitor.a`.
 
 #![no_std]
 #![warn(missing_docs)]
@@ -112,6 +117,8 @@ pub mod cookie;
 mod endpoint;
 #[cfg(feature = "journeys")]
 pub mod journeys;
+#[cfg(feature = "reach_table")]
+pub mod reach_table;
 #[cfg(feature = "usage")]
 pub mod usage;
 
