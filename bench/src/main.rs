@@ -1,5 +1,6 @@
 //! Measures the proved libraries beside plain Rust: `feed_fast`, the same function tuned by hand, `tally_fast`, the same count in one pass,
-//! `import_fast`, the same reading of a Set-Cookie line, and `journey_find_fast`, the same search for a connection.
+//! `import_fast`, the same reading of a Set-Cookie line, `journey_find_fast`, the same search for a connection, and `reach_count_fast`, the same
+//! count of what connections reach.
 //!
 //! Prints what it measured. With `--write FOLDER` it also puts the tables into FOLDER/PERFORMANCE.md, between the two lines that mark their
 //! place, and writes the charts beside it.
@@ -8,6 +9,7 @@ mod chart;
 mod growth;
 mod import;
 mod journey;
+mod reach;
 mod report;
 mod tally;
 mod timing;

@@ -7,6 +7,7 @@ use std::process::Command;
 use crate::growth::{self, Growth};
 use crate::import;
 use crate::journey;
+use crate::reach;
 use crate::tally;
 use crate::timing::{measure as time, Times};
 use crate::workload::{self, Session, Workload};
@@ -30,6 +31,7 @@ pub struct Measured {
     pub lines: Vec<import::Row>,
     pub line_growth: Vec<Growth>,
     pub journeys: Vec<journey::Row>,
+    pub tables: Vec<reach::Row>,
 }
 
 /// What a call costs that is refused after number 2, after number 4, and the mean of the session.
@@ -57,6 +59,7 @@ pub fn measure(rounds: usize) -> Measured {
         lines: import::all(rounds),
         line_growth: import::growth(rounds),
         journeys: journey::all(rounds),
+        tables: reach::all(rounds),
     }
 }
 
@@ -97,7 +100,8 @@ pub fn tables(measured: &Measured) -> String {
         .and_then(|()| list_table(&mut text, &measured.lists))
         .and_then(|()| line_table(&mut text, &measured.lines))
         .and_then(|()| line_growth_tables(&mut text, &measured.line_growth))
-        .and_then(|()| journey_table(&mut text, &measured.journeys));
+        .and_then(|()| journey_table(&mut text, &measured.journeys))
+        .and_then(|()| reach_table(&mut text, &measured.tables));
     written.expect("a string can be written to");
     text
 }
@@ -256,6 +260,12 @@ fn journey_table(text: &mut String, rows: &[journey::Row]) -> std::fmt::Result {
         .iter()
         .map(|row| (row.name, row.urls as f64, &row.times));
     sized_table(text, ["Journey", "URLs", "find", "journey_find_fast"], rows)
+}
+
+fn reach_table(text: &mut String, rows: &[reach::Row]) -> std::fmt::Result {
+    writeln!(text, "Nanoseconds for the reach table of one policy.\n")?;
+    let rows = rows.iter().map(|row| (row.name, row.cells, &row.times));
+    sized_table(text, ["Policy", "cells", "count", "reach_count_fast"], rows)
 }
 
 /// What each of some things of a size costs, by both functions.

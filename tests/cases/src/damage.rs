@@ -2,8 +2,8 @@
 
 use crate::labels::{
     event_set, rows, Pending, Url, CONNECTIONS, CONNECTIONS_AT, ENTRY, HOSTS, HTTPS_HOSTS_AT, KEYS,
-    NO_PARTNER, NO_URL, OPEN_AT, OUTPUT_BYTES, PARTNERS_AT, PICTURE, PRESENT_AT, SCRIPTS,
-    STATE_WORDS, URLS,
+    NO_PARTNER, NO_URL, OPEN_AT, OUTPUT_BYTES, PARTNERS_AT, PICTURE, POLICY_WORDS, PRESENT_AT,
+    SCRIPTS, STATE_WORDS, URLS,
 };
 use crate::random::Random;
 use crate::setting::Setting;
@@ -39,8 +39,34 @@ pub fn damage_policy(policy: &mut Vec<u32>, random: &Random) {
     }
 }
 
+/// Damages a policy of the right length, or gives it another one; now and then it stays well formed.
+pub fn refuse_policy(policy: &mut Vec<u32>, random: &Random) {
+    match random.below(8) {
+        0 | 1 => repeat_words(policy, random),
+        2 => policy[HTTPS_HOSTS_AT] |= 1 << random.within(HOSTS..=31),
+        3 => add_script_reader(policy, random),
+        _ => damage_policy(policy, random),
+    }
+}
+
+/// Another length of a policy, whose words come again behind its end: none at all, one off, or anything up to twice as long.
+fn repeat_words(policy: &mut Vec<u32>, random: &Random) {
+    let near = [POLICY_WORDS - 1, POLICY_WORDS + 1];
+    let any = random.below(2 * POLICY_WORDS);
+    let words = random.pick(&[0, 1, near[0], near[1], 2 * POLICY_WORDS, any]);
+    *policy = policy.iter().copied().cycle().take(words).collect();
+}
+
+/// Gives a connection a script reader that is none of its readers.
+fn add_script_reader(policy: &mut [u32], random: &Random) {
+    let at = CONNECTIONS_AT + 3 * random.below(CONNECTIONS);
+    let reader = bit(random);
+    policy[at] &= !reader;
+    policy[at + 1] |= reader;
+}
+
 /// Gives a row of any kind, or the last one, another partner, or none.
-fn damage_partner(policy: &mut [u32], random: &Random) {
+pub fn damage_partner(policy: &mut [u32], random: &Random) {
     let of = |holds: fn(Url) -> bool| random.bit_of(rows(policy, holds)).unwrap_or(0);
     let (http, https) = (of(Url::is_http), of(Url::is_https));
     let empty = of(|url| !url.exists());

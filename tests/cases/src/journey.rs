@@ -3,10 +3,9 @@
 
 use reference::JOURNEY_URLS;
 
-use crate::damage::damage_policy;
+use crate::damage::refuse_policy;
 use crate::labels::{
-    partner, rows, upgraded, within, Connection, Url, CONNECTIONS, CONNECTIONS_AT, HOSTS,
-    HTTPS_HOSTS_AT, POLICY_WORDS, URLS,
+    partner, rows, upgraded, within, Connection, Url, CONNECTIONS, CONNECTIONS_AT, URLS,
 };
 use crate::policy::random_policy;
 use crate::random::Random;
@@ -139,29 +138,8 @@ impl Given {
             1 => given.miss(random.below(given.urls.len()), random),
             _ => (),
         }
-        match random.below(8) {
-            0 | 1 => given.resize(random),
-            2 => given.policy[HTTPS_HOSTS_AT] |= 1 << random.within(HOSTS..=31),
-            3 => given.add_script_reader(random),
-            _ => damage_policy(&mut given.policy, random),
-        }
+        refuse_policy(&mut given.policy, random);
         given
-    }
-
-    /// Gives a connection a script reader that is none of its readers.
-    fn add_script_reader(&mut self, random: &Random) {
-        let at = sets_at(random.byte_below(CONNECTIONS as u8));
-        let reader = 1 << random.below(32);
-        self.policy[at] &= !reader;
-        self.policy[at + 1] |= reader;
-    }
-
-    /// Another length of the policy: none at all, one off, or anything up to twice as long.
-    fn resize(&mut self, random: &Random) {
-        let near = [POLICY_WORDS - 1, POLICY_WORDS + 1];
-        let any = random.below(2 * POLICY_WORDS);
-        let words = random.pick(&[0, 1, near[0], near[1], 2 * POLICY_WORDS, any]);
-        self.policy = self.policy.iter().copied().cycle().take(words).collect();
     }
 
     /// Puts a number without a row at a place.

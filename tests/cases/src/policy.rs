@@ -103,7 +103,7 @@ pub fn document() -> Vec<u32> {
 }
 
 /// No URL, every set empty, and no host listed.
-fn empty() -> Vec<u32> {
+pub fn empty() -> Vec<u32> {
     let mut policy = vec![0; POLICY_WORDS];
     for url in policy[..COOKIES_AT].chunks_exact_mut(3) {
         url.copy_from_slice(&NO_URL);
@@ -125,8 +125,8 @@ fn near_document(random: &Random) -> Vec<u32> {
     policy
 }
 
-/// Adds or takes away what keeps a policy from being well formed.
-fn well_formed(policy: &mut [u32]) {
+/// Adds or takes away what keeps rows and connections from being well formed.
+pub fn well_formed(policy: &mut [u32]) {
     for row in places_in(rows(policy, Url::exists)) {
         policy[3 * row + 1] |= Url::of(policy, row as u8).event();
     }
@@ -145,11 +145,42 @@ pub fn list_hosts(policy: &mut [u32], random: &Random) {
         if rows_at(policy, http) != 0 && rows_at(policy, https) == 0 {
             add_url(policy, https, http, random);
         }
-        let partners = rows_at(policy, https);
-        for row in places_in(rows_at(policy, http)) {
-            let partner = random.bit_of(partners).expect("the host has an https row");
-            policy[PARTNERS_AT + row] = partner.into();
+        give_partners(policy, host, random);
+    }
+}
+
+/// Lists other hosts in place of those that are listed, of which no row need change: each has an https row, or no http row.
+pub fn relist_hosts(policy: &mut [u32], random: &Random) {
+    unlist_hosts(policy);
+    let hosts = random.pick(&[HOST_BITS, random.word()]);
+    for host in (0..HOSTS as u32).filter(|host| hosts >> host & 1 == 1) {
+        if rows_at(policy, host) == 0 || rows_at(policy, HOSTS as u32 + host) != 0 {
+            policy[HTTPS_HOSTS_AT] |= 1 << host;
+            give_partners(policy, host, random);
         }
+    }
+}
+
+/// Gives the http rows of listed hosts a partner again, mostly another one.
+pub fn change_partners(policy: &mut [u32], random: &Random) {
+    let hosts = policy[HTTPS_HOSTS_AT];
+    for host in (0..HOSTS as u32).filter(|host| hosts >> host & 1 == 1) {
+        give_partners(policy, host, random);
+    }
+}
+
+/// Lists no host.
+pub fn unlist_hosts(policy: &mut [u32]) {
+    policy[HTTPS_HOSTS_AT] = 0;
+    policy[PARTNERS_AT..].fill(NO_PARTNER);
+}
+
+/// Gives each http row of a host one of its https rows as a partner.
+fn give_partners(policy: &mut [u32], host: u32, random: &Random) {
+    let partners = rows_at(policy, HOSTS as u32 + host);
+    for row in places_in(rows_at(policy, host)) {
+        let partner = random.bit_of(partners).expect("the host has an https row");
+        policy[PARTNERS_AT + row] = partner.into();
     }
 }
 
@@ -331,7 +362,7 @@ impl Outline {
 }
 
 /// The rows of a mask.
-fn places_in(mask: u64) -> impl Iterator<Item = usize> {
+pub fn places_in(mask: u64) -> impl Iterator<Item = usize> {
     (0..URLS).filter(move |row| mask >> row & 1 == 1)
 }
 
@@ -349,6 +380,6 @@ fn all_hosts() -> Vec<u32> {
 }
 
 /// A set without one endpoint or two.
-fn lacking(set: u32, random: &Random) -> u32 {
+pub fn lacking(set: u32, random: &Random) -> u32 {
     set & !(1 << random.below(32)) & !(1 << random.below(32))
 }

@@ -16,6 +16,9 @@ use cases::Random;
 /// A program that is not done after so long is taken to hang.
 const PATIENCE: Duration = Duration::from_secs(60);
 
+/// So long the rest of an input is held back now and then: a short one would else be there as a whole before the program reads.
+const PAUSE: Duration = Duration::from_millis(5);
+
 pub struct Ran {
     pub stdout: Vec<u8>,
     pub stderr: Vec<u8>,
@@ -57,6 +60,14 @@ pub fn at(path: &str, test: &str) -> Program {
     })
 }
 
+/// In place of the path of a program: the library alone is tested.
+const LIBRARY_ALONE: &str = "--library";
+
+/// The same, but none where the library alone is tested.
+pub fn unless_alone(path: &str, test: &str) -> Option<Program> {
+    (path != LIBRARY_ALONE).then(|| at(path, test))
+}
+
 /// Where an input is put that arrives as a file.
 struct Scratch(PathBuf);
 
@@ -88,6 +99,7 @@ fn run(mut command: Command, input: &[u8], arrival: Arrival, file: &Path) -> io:
 /// Writes until all is written or the program reads no more, as it does where the input is too long.
 fn write_pieces(pipe: Option<impl Write>, input: &[u8], most: usize, random: &Random) {
     let Some(mut pipe) = pipe else { return };
+    let mut pauses = random.one_in(8);
     let mut left = input;
     while !left.is_empty() {
         let piece = random.within(1..=most).min(left.len());
@@ -95,6 +107,10 @@ fn write_pieces(pipe: Option<impl Write>, input: &[u8], most: usize, random: &Ra
             return;
         }
         left = &left[piece..];
+        if pauses {
+            thread::sleep(PAUSE);
+            pauses = false;
+        }
     }
 }
 

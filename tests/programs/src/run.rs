@@ -2,6 +2,9 @@
 
 use std::io;
 
+use cases::Random;
+
+use crate::input::{Input, Parts};
 use crate::program::{Arrival, Program};
 use crate::suite::Checked;
 use crate::verdict;
@@ -36,6 +39,31 @@ impl Run {
             records,
             more,
         })
+    }
+}
+
+impl Input for Run {
+    /// Arguments are parted by zero bytes, as `xargs -0` reads them.
+    fn parts(&self) -> Parts<'_> {
+        vec![
+            ("arguments", self.arguments.join(&0).into()),
+            ("input", (&self.input).into()),
+        ]
+    }
+}
+
+/// Where an input is laid for the library, and how it reaches the program.
+pub struct Draw {
+    pub place: u64,
+    pub arrival: Arrival,
+}
+
+impl Draw {
+    pub fn random(random: &Random) -> Draw {
+        Draw {
+            place: random.bits(),
+            arrival: Arrival::random(random),
+        }
     }
 }
 

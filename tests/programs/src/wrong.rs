@@ -3,6 +3,9 @@
 use std::os::unix::process::ExitStatusExt;
 use std::process::ExitStatus;
 
+use cases::labels::{event_set, CONNECTIONS_AT, COOKIES_AT, ENTRY, HTTPS_HOSTS_AT, POLICY_WORDS};
+use cases::policy_bytes::POLICY_BYTES;
+
 use crate::program::{self, Program, Ran};
 use crate::run::Run;
 
@@ -68,7 +71,7 @@ impl Right {
         })
     }
 
-    /// A complaint on standard output, none where there should be one, and one too many.
+    /// A complaint on standard output, and none where there should be one.
     pub fn assert_complaints_told(self) {
         let printed = self.told_of(|_, ran| Ran {
             stdout: [ran.stdout, ran.stderr.clone()].concat(),
@@ -80,26 +83,46 @@ impl Right {
             ..ran
         });
         assert_eq!(silent.as_deref(), Some("wrote nothing to standard error"));
+    }
+
+    /// A complaint and another status where nothing is wrong.
+    pub fn assert_failures_told(self) {
         let complaining = self.told_of(|run, ran| Ran {
             stderr: run.input.clone(),
             ..ran
         });
         assert!(complaining.is_some_and(|told| told.starts_with("wrote to standard error")));
-    }
-
-    /// Another status always, and where it complains.
-    pub fn assert_statuses_told(self) {
         let failing = self.told_of(|_, ran| Ran {
             status: ExitStatus::from_raw(1 << 8),
             ..ran
         });
         assert_eq!(failing.as_deref(), Some("ended with exit status: 1"));
+    }
+
+    /// Another status always, and where it complains.
+    pub fn assert_statuses_told(self) {
+        self.assert_failures_told();
         let failing_to_complain = self.told_of(|_, ran| Ran {
             status: ExitStatus::from_raw(if ran.stderr.is_empty() { 0 } else { 2 << 8 }),
             ..ran
         });
         let told = "ended with exit status: 2";
         assert_eq!(failing_to_complain.as_deref(), Some(told));
+    }
+
+    /// A policy on standard input that is read otherwise: the least significant byte first, its end not asked, or other bytes of it.
+    pub fn assert_misread_policies_told(self) {
+        let little = |input: &[u8]| {
+            let words = input.chunks(4).map(|word| word.iter().rev().copied());
+            words.flatten().collect()
+        };
+        assert_all_told(&[
+            self.misread(little),
+            self.misread(|input| input[..input.len().min(POLICY_BYTES)].to_vec()),
+            self.misread(|input| input[..input.len().min(POLICY_BYTES - 1)].to_vec()),
+            self.misread(|input| input[..input.len() / 4 * 4].to_vec()),
+            self.misread(|input| input.strip_suffix(b"\xff").unwrap_or(input).to_vec()),
+        ]);
     }
 
     /// Programs that are everywhere: one prints nothing, one its input, one fails.
@@ -109,6 +132,39 @@ impl Right {
             assert!(told.is_some(), "{name}");
         }
     }
+}
+
+/// What a policy is taken for.
+pub type Taken = fn(&[u32]) -> Vec<u32>;
+
+/// A policy as it is taken where one thing is not asked of it, which is put right: its length, script readers, hosts, event endpoints.
+pub const UNCHECKED: [Taken; 4] = [
+    |policy| policy[..policy.len().min(POLICY_WORDS)].to_vec(),
+    |policy| {
+        mended(policy, |policy| {
+            for sets in policy[CONNECTIONS_AT..HTTPS_HOSTS_AT].chunks_exact_mut(3) {
+                sets[1] &= sets[0];
+            }
+        })
+    },
+    |policy| mended(policy, |policy| policy[HTTPS_HOSTS_AT] &= 0xffff),
+    |policy| {
+        mended(policy, |policy| {
+            for row in policy[..COOKIES_AT].chunks_exact_mut(3) {
+                if row[0] < 2 * ENTRY {
+                    row[1] |= event_set(row[0]);
+                }
+            }
+        })
+    },
+];
+
+fn mended(policy: &[u32], mend: fn(&mut [u32])) -> Vec<u32> {
+    let mut policy = policy.to_vec();
+    if policy.len() == POLICY_WORDS {
+        mend(&mut policy);
+    }
+    policy
 }
 
 pub fn assert_all_told(told: &[Option<String>]) {

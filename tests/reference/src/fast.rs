@@ -162,12 +162,20 @@ fn pair(low: u32, high: u32) -> u64 {
     u64::from(low) | u64::from(high) << 32
 }
 
+/// Number 2, all of a policy that has its length.
+#[inline(always)]
+pub fn well_formed(policy: &Policy) -> bool {
+    urls_well_formed(policy).is_some()
+        && connections_well_formed(policy)
+        && partners_well_formed(policy)
+}
+
 /// Number 2, the rows of URLs, eight at a time: none if one is not well
 /// formed, else whether some row is empty. Used rows are tried one by one:
 /// their branches fall through and cost less than folding the results. Eight
 /// empty rows are tried together.
 #[inline(always)]
-pub fn urls_well_formed(policy: &Policy) -> Option<bool> {
+fn urls_well_formed(policy: &Policy) -> Option<bool> {
     let mut some_empty = false;
     let (rows, _) = policy[..POLICY_COOKIES].as_chunks::<3>();
     for rows in rows.as_chunks::<8>().0 {
@@ -218,7 +226,7 @@ fn all_used_or_empty(rows: &[UrlRow; 8]) -> bool {
 
 /// Number 2, the connections: script readers within readers.
 #[inline(always)]
-pub fn connections_well_formed(policy: &Policy) -> bool {
+fn connections_well_formed(policy: &Policy) -> bool {
     let (rows, _) = policy[POLICY_CONNECTIONS..POLICY_HTTPS_HOSTS].as_chunks::<3>();
     let mut stray = 0;
     for &[readers, script_readers, _] in rows {
@@ -230,7 +238,7 @@ pub fn connections_well_formed(policy: &Policy) -> bool {
 /// Number 2, the https hosts and the partners. Without such a host no row has
 /// a partner, which is tried for all rows together.
 #[inline(always)]
-pub fn partners_well_formed(policy: &Policy) -> bool {
+fn partners_well_formed(policy: &Policy) -> bool {
     let hosts = policy[POLICY_HTTPS_HOSTS];
     if hosts != 0 {
         return hosts < 1 << HOSTS && each_partner_well_formed(policy, hosts);

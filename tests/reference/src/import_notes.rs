@@ -45,11 +45,7 @@ pub fn note_accepted(imported: &Imported, given: &Given, seen: &mut ImportSeen) 
 
 /// Notes each event that occurs.
 pub fn note_all(seen: &mut ImportSeen, events: &[(ImportEvent, bool)]) {
-    for &(event, occurs) in events {
-        if occurs {
-            seen.note(event);
-        }
-    }
+    seen.note_all(events);
 }
 
 /// The pair of a line that got past 14.

@@ -6,10 +6,7 @@
 //! writers keep: one pass over the journey gathers them, one over the
 //! connections tries them.
 
-use crate::fast::{
-    address_of, admitted, connections_well_formed, host_of, only, partners_well_formed, url_row,
-    urls_well_formed, Policy, UrlRow,
-};
+use crate::fast::{address_of, admitted, host_of, only, url_row, well_formed, Policy, UrlRow};
 use crate::journey::{Found, JOURNEY_BAD, JOURNEY_URLS, NO_CONNECTION};
 use crate::layout::{
     ADDRESSES, ENTRY, NO_PARTNER, POLICY_CONNECTIONS, POLICY_HTTPS_HOSTS, POLICY_PARTNERS, URLS,
@@ -30,8 +27,7 @@ pub fn journey_find_fast(policy: &[u32], urls: &[u8]) -> Found {
 #[inline(always)]
 fn find(policy: &[u32], urls: &[u8]) -> Result<u32, u32> {
     let policy: &Policy = policy.try_into().map_err(|_| POLICY_BAD)?;
-    urls_well_formed(policy).ok_or(POLICY_BAD)?;
-    if !connections_well_formed(policy) || !partners_well_formed(policy) {
+    if !well_formed(policy) {
         return Err(POLICY_BAD);
     }
     let (readers, writers) = gather(policy, urls).ok_or(JOURNEY_BAD)?;

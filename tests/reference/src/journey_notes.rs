@@ -28,11 +28,7 @@ pub fn note(journey: &Journey, told: u32, seen: &mut JourneySeen) {
 
 /// Notes each event that occurs.
 pub fn note_all(seen: &mut JourneySeen, events: &[(JourneyEvent, bool)]) {
-    for &(event, occurs) in events {
-        if occurs {
-            seen.note(event);
-        }
-    }
+    seen.note_all(events);
 }
 
 /// What is told, and for how many URLs.

@@ -45,7 +45,7 @@ fn lines(urls: &[u8], input: &[u8]) -> Vec<String> {
 
 /// The words of a policy. An input of another length is a policy of another
 /// length, whatever its words.
-fn read_policy(input: &[u8]) -> Vec<u32> {
+pub fn read_policy(input: &[u8]) -> Vec<u32> {
     match input.len() == 4 * POLICY_WORDS {
         true => input.chunks(4).map(read_word).collect(),
         false => Vec::new(),

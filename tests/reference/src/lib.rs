@@ -9,7 +9,10 @@
 //! reads a Set-Cookie line, [`import_fast`] does the same in one pass, and
 //! [`import_text`] is the program import. [`journey_find`] finds a connection
 //! for a journey, [`journey_find_fast`] does the same with one question for
-//! each connection, and [`journey_text`] is the program journey.
+//! each connection, and [`journey_text`] is the program journey. [`reach_count`]
+//! counts the URLs that each connection fits, [`reach_fits`] asks one of them,
+//! [`reach_count_fast`] counts without allocation, and [`reach_text`] is the
+//! program reach.
 
 #![forbid(unsafe_code)]
 
@@ -39,6 +42,10 @@ mod missing;
 mod monitor;
 pub mod numbers;
 mod policy;
+mod reach;
+mod reach_fast;
+mod reach_notes;
+mod reach_seen;
 mod record;
 mod request;
 mod request_record;
@@ -70,6 +77,9 @@ pub use journey_seen::{JourneyEvent, JourneySeen};
 pub use journey_text::{journey_text, urls_of};
 pub use monitor::{feed, feed_by, feed_noting};
 pub use policy::{ConnectionTag, CookieTag, Url};
+pub use reach::{reach_count, reach_fits, reach_fits_noting, reach_noting, reach_text, Reach};
+pub use reach_fast::reach_count_fast;
+pub use reach_seen::{ReachEvent, ReachSeen};
 pub use rules::{Documents, Rules};
 pub use seen::{Event, Seen};
 pub use tally::{tally, tally_noting, tally_text, Tally, LIST_BAD, LIST_BYTES};

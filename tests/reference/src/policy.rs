@@ -33,7 +33,7 @@ impl Url {
     }
 
     /// Whether it is https and not http.
-    fn is_https(&self) -> bool {
+    pub fn is_https(&self) -> bool {
         self.address >= HOSTS as u32
     }
 
@@ -94,6 +94,11 @@ impl ConnectionTag {
     /// Second half: the URL's message endpoint is among the writers.
     pub fn writers_fit(&self, url: &Url) -> bool {
         self.message_missing(url).is_empty()
+    }
+
+    /// Both halves.
+    pub fn fits(&self, url: &Url) -> bool {
+        self.readers_fit(url) && self.writers_fit(url)
     }
 
     /// Whether the URL admits a redirect or a script that the writers have

@@ -41,6 +41,15 @@ macro_rules! events {
                 self.counts[event as usize] += 1;
             }
 
+            /// Each of these that did occur occurred once more.
+            pub fn note_all(&mut self, events: &[($events, bool)]) {
+                for &(event, occurs) in events {
+                    if occurs {
+                        self.note(event);
+                    }
+                }
+            }
+
             /// How often the event occurred.
             pub fn count(&self, event: $events) -> u64 {
                 self.counts[event as usize]
@@ -350,4 +359,14 @@ events! {
     EndPictureUrlWriters: "a script ends at a picture: its writers are not within the URL's writers, and it is no entry",
     EndRunsPast: "a script runs past step 31",
     EndSkipsPast: "a script skips past step 31",
+}
+
+impl Event {
+    /// The clauses by which a policy is refused.
+    pub fn policy_clauses() -> impl Iterator<Item = Event> {
+        let (first, last) = (Event::PolicyLength, Event::PolicyPartnerOfEmpty);
+        let clauses = first as usize..=last as usize;
+        let is_clause = move |event: &Event| clauses.contains(&(*event as usize));
+        Event::ALL.into_iter().filter(is_clause)
+    }
 }

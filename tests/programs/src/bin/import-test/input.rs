@@ -16,7 +16,6 @@ pub enum Input {
 }
 
 impl programs::Input for Input {
-    /// Arguments are parted by zero bytes, as `xargs -0` reads them.
     fn parts(&self) -> Parts<'_> {
         match self {
             Input::Line(Given { host, names, text }) => vec![
@@ -24,10 +23,7 @@ impl programs::Input for Input {
                 ("names", names.into()),
                 ("line", text.into()),
             ],
-            Input::Run(Run { arguments, input }) => vec![
-                ("arguments", arguments.join(&0).into()),
-                ("input", input.into()),
-            ],
+            Input::Run(run) => run.parts(),
         }
     }
 }

@@ -14,8 +14,8 @@ use std::process::ExitCode;
 use cases::line::Given;
 use cases::{events, Random};
 use programs::counts::Column;
-use programs::program::{self, Arrival, Program};
-use programs::run::left_out;
+use programs::program::{self, Program};
+use programs::run::{left_out, Draw};
 use programs::{suite, Checked, Suite};
 use reference::{Imported, HOST_UNKNOWN, NO_KEY, NO_NAME, NO_NUMBER};
 
@@ -26,18 +26,9 @@ use input::{Input, Kind};
 const NUMBERS: [u32; 5] = [0, HOST_UNKNOWN, NO_NAME, NO_KEY, NO_NUMBER];
 const TO_IMPORT: usize = NUMBERS.len();
 
-/// In place of the program: the library alone is tested.
-const LIBRARY_ALONE: &str = "--library";
-
 struct Imports {
     checker: Checker,
     program: Option<Program>,
-}
-
-/// Where names and line are laid for the library, and how an input reaches the program.
-struct Draw {
-    place: u64,
-    arrival: Arrival,
 }
 
 impl Suite for Imports {
@@ -61,10 +52,7 @@ impl Suite for Imports {
     type Draw = Draw;
 
     fn draw(random: &Random, _: usize) -> Draw {
-        Draw {
-            place: random.bits(),
-            arrival: Arrival::random(random),
-        }
+        Draw::random(random)
     }
 
     fn check(&mut self, input: &Input, draw: Draw) -> io::Result<Checked> {
@@ -123,6 +111,6 @@ fn text(imported: &Imported) -> String {
 fn main() -> ExitCode {
     suite::main(|path| Imports {
         checker: Checker::new(Box::new(checker::library)),
-        program: (path != LIBRARY_ALONE).then(|| program::at(path, Imports::NAME)),
+        program: program::unless_alone(path, Imports::NAME),
     })
 }

@@ -2,10 +2,11 @@
 
 use cases::guarded::{flip, Guarded};
 use cases::labels::{
-    upgraded, within, Connection, Url, CONNECTIONS, CONNECTIONS_AT, ENTRY, HTTPS_HOSTS_AT,
-    NO_PARTNER, PARTNERS_AT, URLS,
+    upgraded, within, Connection, Url, CONNECTIONS, ENTRY, HTTPS_HOSTS_AT, NO_PARTNER, PARTNERS_AT,
+    URLS,
 };
 use programs::program::Program;
+use programs::wrong::UNCHECKED;
 use programs::{suite, Kind as _};
 use reference::numbers::{ACCEPTED, POLICY_BAD};
 use reference::{Found, JOURNEY_BAD, JOURNEY_URLS, NO_CONNECTION};
@@ -405,37 +406,13 @@ fn an_entry_that_is_excused_from_more_is_told() {
 
 #[test]
 fn a_policy_that_is_not_checked_is_told() {
-    let longer: Finder = Box::new(|lent| {
-        let policy = lent.policy.inside();
-        let words = policy.len().min(PARTNERS_AT + URLS);
-        reference::journey_find(&policy[..words], lent.urls.inside())
-    });
-    assert_told(longer, "number");
-    let mended = |mend: fn(&mut [u32])| -> Finder {
-        Box::new(move |lent| {
-            let mut policy = lent.policy.inside().to_vec();
-            if policy.len() == PARTNERS_AT + URLS {
-                mend(&mut policy);
-            }
+    for taken in UNCHECKED {
+        let finder: Finder = Box::new(move |lent| {
+            let policy = taken(lent.policy.inside());
             reference::journey_find(&policy, lent.urls.inside())
-        })
-    };
-    let script_readers = mended(|policy| {
-        for sets in policy[CONNECTIONS_AT..HTTPS_HOSTS_AT].chunks_exact_mut(3) {
-            sets[1] &= sets[0];
-        }
-    });
-    assert_told(script_readers, "number");
-    let hosts = mended(|policy| policy[HTTPS_HOSTS_AT] &= 0xffff);
-    assert_told(hosts, "number");
-    let events = mended(|policy| {
-        for row in policy[..3 * URLS].chunks_exact_mut(3) {
-            if row[0] < 2 * ENTRY {
-                row[1] |= 1 << (row[0] % 16);
-            }
-        }
-    });
-    assert_told(events, "number");
+        });
+        assert_told(finder, "number");
+    }
 }
 
 #[test]

@@ -1,12 +1,13 @@
 //! Random journeys with policies, by kind, and random runs of the program.
 
 use cases::journey::{length, no_journey, Given, Lowest, Taste};
+use cases::policy_bytes::policy_bytes;
 use cases::Random;
 use programs::input::Parts;
 use programs::run::Run;
 use reference::JOURNEY_URLS as MOST;
 
-use crate::run::{self, policy_bytes};
+use crate::run;
 
 pub enum Input {
     /// For the library.
@@ -16,17 +17,14 @@ pub enum Input {
 }
 
 impl programs::Input for Input {
-    /// A policy as the program reads it. Arguments are parted by zero bytes, as `xargs -0` reads them.
+    /// A policy as the program reads it.
     fn parts(&self) -> Parts<'_> {
         match self {
             Input::Journey(Given { policy, urls }) => vec![
                 ("policy", policy_bytes(policy).into()),
                 ("journey", urls.into()),
             ],
-            Input::Run(Run { arguments, input }) => vec![
-                ("arguments", arguments.join(&0).into()),
-                ("input", input.into()),
-            ],
+            Input::Run(run) => run.parts(),
         }
     }
 }

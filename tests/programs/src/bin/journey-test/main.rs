@@ -14,8 +14,8 @@ use std::process::ExitCode;
 use cases::journey::Given;
 use cases::{events, Random};
 use programs::counts::Column;
-use programs::program::{self, Arrival, Program};
-use programs::run::left_out;
+use programs::program::{self, Program};
+use programs::run::{left_out, Draw};
 use programs::{suite, Checked, Suite};
 use reference::numbers::{ACCEPTED, POLICY_BAD};
 use reference::{Found, JOURNEY_BAD, NO_CONNECTION};
@@ -27,18 +27,9 @@ use input::{Input, Kind};
 const ANSWERS: usize = 6;
 const TO_JOURNEY: usize = ANSWERS;
 
-/// In place of the program: the library alone is tested.
-const LIBRARY_ALONE: &str = "--library";
-
 struct Journeys {
     checker: Checker,
     program: Option<Program>,
-}
-
-/// Where policy and journey are laid for the library, and how an input reaches the program.
-struct Draw {
-    place: u64,
-    arrival: Arrival,
 }
 
 impl Suite for Journeys {
@@ -63,10 +54,7 @@ impl Suite for Journeys {
     type Draw = Draw;
 
     fn draw(random: &Random, _: usize) -> Draw {
-        Draw {
-            place: random.bits(),
-            arrival: Arrival::random(random),
-        }
+        Draw::random(random)
     }
 
     fn check(&mut self, input: &Input, draw: Draw) -> io::Result<Checked> {
@@ -131,6 +119,6 @@ fn text(found: &Found) -> String {
 fn main() -> ExitCode {
     suite::main(|path| Journeys {
         checker: Checker::new(Box::new(checker::library)),
-        program: (path != LIBRARY_ALONE).then(|| program::at(path, Journeys::NAME)),
+        program: program::unless_alone(path, Journeys::NAME),
     })
 }

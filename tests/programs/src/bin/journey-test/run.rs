@@ -2,9 +2,9 @@
 
 use cases::journey::{length, no_journey, Given, Lowest, Taste};
 use cases::line;
+use cases::policy_bytes::{self, policy_bytes};
 use cases::Random;
 use programs::run::Run;
-use reference::layout::POLICY_WORDS;
 use reference::JOURNEY_URLS;
 
 /// Arguments that are no numbers.
@@ -28,13 +28,6 @@ const BAD_ARGUMENTS: [&[u8]; 18] = [
     b"00000000001",
     b"99999999999",
 ];
-
-const POLICY_BYTES: usize = 4 * POLICY_WORDS;
-
-/// A policy as it is on standard input.
-pub fn policy_bytes(policy: &[u32]) -> Vec<u8> {
-    policy.iter().flat_map(|word| word.to_be_bytes()).collect()
-}
 
 /// What the program should print; nothing where it should complain.
 pub fn printed(run: &Run) -> Option<String> {
@@ -111,23 +104,18 @@ pub fn of_bad_arguments(random: &Random) -> Run {
 
 /// A policy that lacks bytes, or has more: a byte, a word, or many.
 pub fn of_length(random: &Random) -> Run {
-    let mut run = of(&Given::good(random));
-    let off = random.pick(&[1, 2, 3, 4, 5, random.within(1..=POLICY_BYTES)]);
-    let long = random.pick(&[2 * POLICY_BYTES, 4_096, 100_000, POLICY_BYTES + off]);
-    let bytes = random.pick(&[0, POLICY_BYTES - off, POLICY_BYTES + off, long]);
-    run.input = run.input.iter().copied().cycle().take(bytes).collect();
-    run
+    let given = Given::good(random);
+    Run {
+        input: policy_bytes::of_length(&given.policy, random),
+        ..of(&given)
+    }
 }
 
-/// Bytes of all values or of one, as many as a policy has, or not.
 pub fn of_bytes(random: &Random) -> Run {
-    let bytes = random.pick(&[POLICY_BYTES, POLICY_BYTES, random.below(2 * POLICY_BYTES)]);
-    let mut run = of(&Given::good(random));
-    run.input = vec![random.pick(&[0, 0xff, b'1', b'\n']); bytes];
-    if random.one_in(2) {
-        random.fill_bytes(&mut run.input);
+    Run {
+        input: policy_bytes::noise(random),
+        ..of(&Given::good(random))
     }
-    run
 }
 
 /// No argument can have a zero byte.

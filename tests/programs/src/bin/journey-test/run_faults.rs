@@ -1,7 +1,6 @@
 //! The test can fail: programs with a single fault each are told.
 
 use programs::wrong::{assert_all_told, Right};
-use reference::layout::POLICY_WORDS;
 use reference::JOURNEY_URLS;
 
 use crate::faults::{first_difference, honest};
@@ -106,21 +105,9 @@ fn a_url_in_place_of_its_partner_is_told() {
     ]);
 }
 
-const POLICY_BYTES: usize = 4 * POLICY_WORDS;
-
 #[test]
 fn an_input_that_is_read_otherwise_is_told() {
-    let little = |input: &[u8]| {
-        let words = input.chunks(4).map(|word| word.iter().rev().copied());
-        words.flatten().collect()
-    };
-    assert_all_told(&[
-        RIGHT.misread(little),
-        RIGHT.misread(|input| input[..input.len().min(POLICY_BYTES)].to_vec()),
-        RIGHT.misread(|input| input[..input.len().min(POLICY_BYTES - 1)].to_vec()),
-        RIGHT.misread(|input| input[..input.len() / 4 * 4].to_vec()),
-        RIGHT.misread(|input| input.strip_suffix(b"\xff").unwrap_or(input).to_vec()),
-    ]);
+    RIGHT.assert_misread_policies_told();
 }
 
 #[test]

@@ -21,9 +21,6 @@ use input::Kind;
 /// The last column: how many lists went to the program.
 const TO_TALLY: usize = 2;
 
-/// In place of the program: the library alone is tested.
-const LIBRARY_ALONE: &str = "--library";
-
 struct Tallies {
     checker: Checker,
     program: Option<Program>,
@@ -114,6 +111,6 @@ fn text(tally: &Tally) -> String {
 fn main() -> ExitCode {
     suite::main(|path| Tallies {
         checker: Checker::new(Box::new(checker::library)),
-        program: (path != LIBRARY_ALONE).then(|| program::at(path, Tallies::NAME)),
+        program: program::unless_alone(path, Tallies::NAME),
     })
 }
