@@ -2,7 +2,7 @@
 use Rattle.prelude.proofs.Kit.{ℕ, _<_, arith, List, _≡_, sym, _∙_, ap, T, getD, lt-ltb}
 use mathlib.Core.Logic.{inl, inr}
 use lib.ListN.{getD-replicate}
-use Rattle.prelude.specs.Sums.{sumBelow, countBelow, AtMostApart}
+use Rattle.prelude.specs.Sums.{sumBelow, AtMostApart}
 use Rattle.prelude.proofs.Choices.{either, is-true, is-false}
 use Rattle.prelude.proofs.Sums.{sum-none-of, sum-same, sum-each, sum-but-one, count-none-of, count-same, count-but-one}
 use Rattle.machine.specs.Policy.{urlRows, connections, urlAddress, isEntry, emptyRow, isUrl, wellFormed, fitMissingReader, fitMissingWriter, fits}
@@ -23,8 +23,8 @@ module _ (p : List ℕ) (t : T (wellFormed p)) where
 
 -- ---- cells
 
-cells-of : (p : List ℕ) → ((n : ℕ) → n < connections → countOf p n ≡ countBelow urlRows (inTable p n)) × (tabled p .all ≡ sumBelow connections (countOf p))
-cells-of p = elim (either (wellFormed p)) [
+pub cells-add-up : CellsAddUp
+cells-add-up p = elim (either (wellFormed p)) [
   | inl t ↦ (
     λ n l. counted p t n l ∙ sym (reach-is p n) ∙ count-same (reaches p n) (inTable p n) urlRows (λ u _. cell-reached p n u (is-true (wellFormed p) t) (lt-ltb n connections l)),
     total-is p t ∙ sum-same (reach p) (countOf p) connections (λ n l. sym (counted p t n l)),
@@ -35,9 +35,6 @@ cells-of p = elim (either (wellFormed p)) [
         ap (λ (r : ReachTable). r .all) (tabled-refused p t) ∙ sym (sum-none-of (countOf p) connections none),
       )
 ]
-
-pub cells-add-up : CellsAddUp
-cells-add-up = cells-of
 
 -- ---- changes
 
@@ -63,8 +60,7 @@ module _ (p q : List ℕ) (tp : T (wellFormed p)) (tq : T (wellFormed q)) where
 pub row-moves : RowMoves
 unfolding reach
 row-moves p q u tp tq (rows, same) =
-    let each : (n : ℕ) → n < connections → AtMostApart 1 (reach p n) (reach q n) = reach-apart in
-    (totals-apart p q tp tq 32 (sum-each (reach p) (reach q) connections each), λ n l. counts-apart p q tp tq 1 n l (each n l))
+    (totals-apart p q tp tq 32 (sum-each (reach p) (reach q) connections reach-apart), λ n l. counts-apart p q tp tq 1 n l (reach-apart n l))
   where
     reach-apart : (n : ℕ) → n < connections → AtMostApart 1 (reach p n) (reach q n)
     reach-apart n l = count-but-one (reaches p n) (reaches q n) u urlRows (λ v h ne. same-reached p q n v (rows v h ne) (same n l))

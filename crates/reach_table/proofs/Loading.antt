@@ -1,4 +1,4 @@
--- A cell is set just where the monitor takes a load, which is a journey of one URL.
+-- The monitor takes a load just where the cell is set of the URL that is asked for: a load is a journey of one URL.
 use Rattle.prelude.proofs.Kit.{ℕ, _<_, arith, List, _∷_, [], _≡_, sym, _∙_, ap, subst, T, getD, eqb→eq, eq-eqb, and-l, and-r, and-i, lt-ltb, ℕ-discrete}
 use Rattle.prelude.specs.Refusals.{accepted}
 use Rattle.prelude.proofs.Choices.{is-true}
@@ -49,7 +49,7 @@ module _ (p : List ℕ) (n u : ℕ) where
   unfolding fits reader writer
   none-where t = (eqb→eq reader noneMissing (and-l (isNone reader) (isNone writer) t), eqb→eq writer noneMissing (and-r (isNone reader) (isNone writer) t))
 
-  -- one URL is a journey, whose load is judged by whether the connection fits it
+  -- a URL alone is a journey
   one-url : T (isUrl p u) → T (isJourney p (u ∷ []))
   one-url t =
       let first : (i : ℕ) → i < 1 → T (isUrl p (getD (u ∷ []) i 0)) = λ i l. let here : i ≡ 0 = omega (arith, l) in rw here t in
