@@ -12,7 +12,7 @@
  *         printf("connection 0 reaches %u URLs, and there are %u such pairs in all\n", (unsigned)table.urls[0], (unsigned)table.all);
  *     }
  *
- * Which URLs they are, reach_fits tells one by one; the program `reach` prints the counts, and `reach-picture` draws the whole table.
+ * Which URLs they are, reach_fits tells one by one; the program `reach` prints the counts, and `zolherima reach` draws the whole table.
  *
  * What is proved. reach_count answers, for every input, what the definition says: each count is the number of URLs for which reach_fits is true,
  * and `all` is the sum of the counts. monitor_feed accepts a load of a URL on a connection, from a state of zeros, with any script table of

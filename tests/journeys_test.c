@@ -1,8 +1,10 @@
 /* Links libjourneys.a, and libmonitor.a for what a monitor takes: journeys under document 01's policy P and under one with a canteen and a bank, each
  * condition at each place of a journey, the lower of every two connections, every number of a URL at each place, every row with its partner, every
- * length of journey and policy, the order of the refusals, null pointers and random policies. Each call is made between guards, in memory of just
- * its length, where valgrind sees a read past an end, and at the end of pages that cannot be written and have nothing behind them; neither policy
- * nor journey may change. What is told is held to monitor.h, read slowly, and to the monitor itself. */
+ * length of journey and policy, connections that there are not, the order of the refusals, null pointers and random policies. With each journey that
+ * is searched goes one connection, another from call to call, of which is asked where it stops; of worked journeys and of some random ones each
+ * connection is asked. Each call is made between guards, in memory of just its length, where valgrind sees a read past an end, and at the end of
+ * pages that cannot be written and have nothing behind them; neither policy nor journey may change. What is told is held to monitor.h, read slowly,
+ * and to the monitor itself: what is before the stop is accepted, and there it refuses by that number and for that endpoint. */
 #define _XOPEN_SOURCE 700
 #include <inttypes.h>
 #include <stdbool.h>
@@ -49,34 +51,61 @@ static struct journey_found told(uint32_t connection)
     return (struct journey_found){.number = JOURNEY_ACCEPTED, .connection = connection};
 }
 
+static bool same_stop(struct journey_stop a, struct journey_stop b)
+{
+    return a.number == b.number && a.place == b.place && a.refusal == b.refusal && a.missing == b.missing && a.url == b.url && a.of_url == b.of_url;
+}
+
+static struct journey_stop refused_stop(uint32_t number)
+{
+    return (struct journey_stop){.number = number};
+}
+
+static struct journey_stop no_stop(size_t length)
+{
+    return (struct journey_stop){.place = (uint32_t)length, .missing = JOURNEY_NONE_MISSING};
+}
+
 /* ---- calling */
 
-static struct journey_found find_guarded(struct span words, struct span urls)
+/* Both are asked, about the same: for a connection, and where one stops. */
+struct answers {
+    struct journey_found found;
+    struct journey_stop stop;
+};
+
+static struct answers ask(const void *lent_policy, struct span words, const void *lent_journey, struct span urls, uint32_t connection)
+{
+    const size_t length = words.size / sizeof *policy;
+    return (struct answers){.found = journey_find(lent_policy, length, lent_journey, urls.size),
+                            .stop = journey_stop(lent_policy, length, lent_journey, urls.size, connection)};
+}
+
+static struct answers ask_guarded(struct span words, struct span urls, uint32_t connection)
 {
     lay(&guarded_policy, words, sizeof *policy);
     lay(&guarded_journey, urls, 1);
-    const void *const lent = guarded_policy.lent;
-    struct journey_found found = journey_find(lent, words.size / sizeof *policy, guarded_journey.lent, urls.size);
+    struct answers answers = ask(guarded_policy.lent, words, guarded_journey.lent, urls, connection);
     check_kept(&guarded_policy, words);
     check_kept(&guarded_journey, urls);
-    return found;
+    return answers;
 }
 
-static struct journey_found find_bare(struct span words, struct span urls)
+static struct answers ask_bare(struct span words, struct span urls, uint32_t connection)
 {
     void *const lent_policy = bare_copy(words);
     void *const lent_journey = bare_copy(urls);
-    struct journey_found found = journey_find(lent_policy, words.size / sizeof *policy, lent_journey, urls.size);
+    struct answers answers = ask(lent_policy, words, lent_journey, urls, connection);
     check(equal(lent_policy, words) && equal(lent_journey, urls), "policy or journey changed, in memory of their length");
     free(lent_policy);
     free(lent_journey);
-    return found;
+    return answers;
 }
 
 /* A write, or a read past an end, ends the test by a signal. */
-static struct journey_found find_at_the_end(struct span words, struct span urls)
+static struct answers ask_at_the_end(struct span words, struct span urls, uint32_t connection)
 {
-    return journey_find(at_the_end(&policy_pages, words), words.size / sizeof *policy, at_the_end(&journey_pages, urls), urls.size);
+    return ask(at_the_end(&policy_pages, words), words, at_the_end(&journey_pages, urls), urls, connection);
 }
 
 static void print_journey(struct span urls)
@@ -89,68 +118,75 @@ static void print_journey(struct span urls)
     fprintf(stderr, "\n");
 }
 
-static void print_found(const char *name, struct journey_found it)
+static void print_answers(const char *name, struct answers it)
 {
-    fprintf(stderr, "journeys: %s: number %" PRIu32 ", connection %" PRIu32 "\n", name, it.number, it.connection);
+    fprintf(stderr, "journeys: %s: number %" PRIu32 ", connection %" PRIu32 "\n", name, it.found.number, it.found.connection);
+    fprintf(stderr, "journeys: %s: number %" PRIu32 ", place %" PRIu32 ", refusal %" PRIu32, name, it.stop.number, it.stop.place, it.stop.refusal);
+    fprintf(stderr, ", missing %" PRIu32 ", URL %" PRIu32 ", of the URL %" PRIu32 "\n", it.stop.missing, it.stop.url, it.stop.of_url);
 }
 
-/* With so many words of the policy. */
-static void gives_with(size_t words, struct span urls, struct journey_found want)
+static bool same_answers(struct answers a, struct answers b)
 {
-    const struct span lent = {policy, words * sizeof *policy};
-    calls++;
-    struct journey_found guarded = find_guarded(lent, urls), bare = find_bare(lent, urls), at_end = find_at_the_end(lent, urls);
-    if (same(guarded, want) && same(bare, want) && same(at_end, want)) {
-        return;
-    }
-    print_journey(urls);
-    print_found("between guards", guarded);
-    print_found("in memory of its length", bare);
-    print_found("at the end of pages", at_end);
-    print_found("expected", want);
-    check(false, "something else is told");
-}
-
-static void gives(struct span urls, struct journey_found want)
-{
-    gives_with(MONITOR_POLICY_WORDS, urls, want);
+    return same(a.found, b.found) && same_stop(a.stop, b.stop);
 }
 
 /* ---- what should be told: monitor.h, read slowly, under a policy that is well formed */
 
-static bool within(uint32_t a, uint32_t b)
+static uint32_t lowest(uint32_t set)
 {
-    return (a & ~b) == 0;
+    uint32_t member = 0;
+    while (member < 32 && (set >> member & 1u) == 0) {
+        member++;
+    }
+    return member;
 }
 
-static const uint32_t *asked_for(uint8_t url)
+static uint32_t asked_for(uint8_t url)
 {
     const uint32_t partner = policy[PARTNERS + url];
-    return url_words(partner == NO_PARTNER ? url : partner);
+    return partner == NO_PARTNER ? url : partner;
 }
 
-static bool can_load(const uint32_t *connection, const uint32_t *url)
+/* A condition, unless one before it fails: all that is asked for is in a set. */
+static void want_within(struct journey_stop *stop, uint32_t asked, uint32_t set, uint32_t refusal, uint32_t of_url)
 {
-    const uint32_t message = UINT32_C(1) << url[0] % MONITOR_ENTRY;
-    return within(connection[0], url[1]) && within(message, connection[2]);
+    if (stop->refusal == MONITOR_ACCEPTED && (asked & ~set) != 0) {
+        stop->refusal = refusal;
+        stop->missing = lowest(asked & ~set);
+        stop->of_url = of_url;
+    }
 }
 
-static bool can_redirect(const uint32_t *connection, const uint32_t *url)
+/* The conditions in the order of monitor.h: of a load, or of a redirect. */
+static struct journey_stop judged_slowly(const uint32_t *connection, const uint32_t *url, bool is_load)
 {
-    const uint32_t event = UINT32_C(1) << url[0] % HOSTS;
-    const bool is_entry = url[0] >= MONITOR_ENTRY;
-    return within(event, connection[0]) && can_load(connection, url) && (is_entry || within(connection[2], url[2]));
+    const uint32_t message = UINT32_C(1) << url[0] % MONITOR_ENTRY, event = UINT32_C(1) << url[0] % HOSTS;
+    struct journey_stop stop = no_stop(0);
+    want_within(&stop, is_load ? 0 : event, connection[0], MONITOR_READERS_FORBID, 0);
+    want_within(&stop, connection[0], url[1], MONITOR_READERS_FORBID, 1);
+    want_within(&stop, message, connection[2], MONITOR_WRITERS_FORBID, 0);
+    want_within(&stop, is_load || url[0] >= MONITOR_ENTRY ? 0 : connection[2], url[2], MONITOR_WRITERS_FORBID, 1);
+    return stop;
+}
+
+static struct journey_stop stop_slowly(uint32_t connection, struct span urls)
+{
+    const uint8_t *const url = urls.at;
+    for (uint32_t place = 0; place < urls.size; place++) {
+        const uint32_t asked = asked_for(url[place]);
+        struct journey_stop stop = judged_slowly(connection_words(connection), url_words(asked), place == 0);
+        if (stop.refusal != MONITOR_ACCEPTED) {
+            stop.place = place;
+            stop.url = asked;
+            return stop;
+        }
+    }
+    return no_stop(urls.size);
 }
 
 static bool carries(uint32_t connection, struct span urls)
 {
-    const uint32_t *const sets = connection_words(connection);
-    const uint8_t *const url = urls.at;
-    bool carried = can_load(sets, asked_for(url[0]));
-    for (size_t i = 1; carried && i < urls.size; i++) {
-        carried = can_redirect(sets, asked_for(url[i]));
-    }
-    return carried;
+    return stop_slowly(connection, urls).place == urls.size;
 }
 
 static struct journey_found found_slowly(struct span urls)
@@ -173,17 +209,23 @@ static struct journey_found found_slowly(struct span urls)
 
 /* ---- what a monitor takes */
 
-/* From a state of zeros. A redirect names the URL that the connection holds, which is in the lowest byte of its word. */
-static bool monitor_takes(uint8_t connection, struct span urls)
+/* From a state of zeros: where it refuses, and how. A redirect names the URL that the connection holds, which is in the lowest byte of its word. */
+static struct journey_stop fed(uint8_t connection, struct span urls)
 {
     const uint8_t *const url = urls.at;
     uint32_t state[MONITOR_STATE_WORDS] = {0};
-    bool taken = feed(state, (const uint8_t[]){0x03, url[0], connection}, 3).number == MONITOR_ACCEPTED;
-    for (size_t i = 1; taken && i < urls.size; i++) {
+    struct monitor_answer answer = feed(state, (const uint8_t[]){0x03, url[0], connection}, 3);
+    uint32_t place = 0;
+    while (answer.number == MONITOR_ACCEPTED && ++place < urls.size) {
         const uint8_t held = (uint8_t)state[OPEN_AT + connection];
-        taken = feed(state, (const uint8_t[]){0x23, held, connection, url[i]}, 4).number == MONITOR_ACCEPTED;
+        answer = feed(state, (const uint8_t[]){0x23, held, connection, url[place]}, 4);
     }
-    return taken;
+    return (struct journey_stop){.place = place, .refusal = answer.number, .missing = answer.missing};
+}
+
+static bool monitor_takes(uint8_t connection, struct span urls)
+{
+    return fed(connection, urls).refusal == MONITOR_ACCEPTED;
 }
 
 /* It takes the journey on what should be told, and on no connection below. */
@@ -196,6 +238,70 @@ static void check_taken(struct span urls, struct journey_found want)
         check(!monitor_takes(connection, urls), "the monitor takes the journey on a lower connection");
     }
     check(want.connection == JOURNEY_NO_CONNECTION || monitor_takes((uint8_t)want.connection, urls), "the monitor does not take the journey");
+}
+
+/* It stops where and as should be told; and below the connection that should be found each stops, and that one does not. */
+static void check_stopped(uint32_t connection, struct span urls, struct journey_found found, struct journey_stop want)
+{
+    const struct journey_stop by_monitor = fed((uint8_t)connection, urls);
+    const bool agree = by_monitor.place == want.place && by_monitor.refusal == want.refusal && by_monitor.missing == want.missing;
+    check(agree, "the monitor stops elsewhere or otherwise");
+    check(connection >= found.connection || want.place < urls.size, "a lower connection does not stop");
+    check(connection != found.connection || want.place == urls.size, "the connection that is found stops");
+}
+
+/* ---- holding the library to it */
+
+static struct journey_stop stop_wanted(struct span urls, struct journey_found found, uint32_t connection)
+{
+    if (found.number != JOURNEY_ACCEPTED) {
+        return refused_stop(found.number);
+    }
+    if (connection >= CONNECTIONS) {
+        return refused_stop(JOURNEY_CONNECTION_UNKNOWN);
+    }
+    const struct journey_stop want = stop_slowly(connection, urls);
+    check_stopped(connection, urls, found, want);
+    return want;
+}
+
+/* With so many words of the policy. */
+static void gives_on(size_t words, struct span urls, struct journey_found found, uint32_t connection)
+{
+    const struct span lent = {policy, words * sizeof *policy};
+    const struct answers want = {.found = found, .stop = stop_wanted(urls, found, connection)};
+    calls++;
+    struct answers guarded = ask_guarded(lent, urls, connection), bare = ask_bare(lent, urls, connection);
+    struct answers at_end = ask_at_the_end(lent, urls, connection);
+    if (same_answers(guarded, want) && same_answers(bare, want) && same_answers(at_end, want)) {
+        return;
+    }
+    print_journey(urls);
+    fprintf(stderr, "journeys: connection %" PRIu32 "\n", connection);
+    print_answers("between guards", guarded);
+    print_answers("in memory of its length", bare);
+    print_answers("at the end of pages", at_end);
+    print_answers("expected", want);
+    check(false, "something else is told");
+}
+
+/* The connection of which is asked where it stops is another from call to call; at times it is none of the 32. */
+static void gives_with(size_t words, struct span urls, struct journey_found want)
+{
+    gives_on(words, urls, want, (uint32_t)(calls % (CONNECTIONS + 1)));
+}
+
+static void gives(struct span urls, struct journey_found want)
+{
+    gives_with(MONITOR_POLICY_WORDS, urls, want);
+}
+
+/* The same of each connection. */
+static void gives_on_each(struct span urls, struct journey_found want)
+{
+    for (uint32_t connection = 0; connection <= CONNECTIONS; connection++) {
+        gives_on(MONITOR_POLICY_WORDS, urls, want, connection);
+    }
 }
 
 static void found_as_slowly(struct span urls)
@@ -213,45 +319,68 @@ static void worked(struct span urls, struct journey_found want)
     gives(urls, want);
 }
 
+static void worked_on_each(struct span urls, struct journey_found want)
+{
+    worked(urls, want);
+    gives_on_each(urls, want);
+}
+
+static void stops(struct span urls, uint32_t connection, struct journey_stop want)
+{
+    check(is_well_formed() && same_stop(stop_slowly(connection, urls), want), "the test itself stops elsewhere");
+    gives_on(MONITOR_POLICY_WORDS, urls, found_slowly(urls), connection);
+}
+
+/* A stop at a place by a refusal, for want of an endpoint, at the URL that is asked for there: by the URL's set, or by the connection's. */
+static struct journey_stop by_url(uint32_t place, uint32_t refusal, uint32_t missing, uint32_t url)
+{
+    return (struct journey_stop){.place = place, .refusal = refusal, .missing = missing, .url = url, .of_url = 1};
+}
+
+static struct journey_stop by_connection(uint32_t place, uint32_t refusal, uint32_t missing, uint32_t url)
+{
+    return (struct journey_stop){.place = place, .refusal = refusal, .missing = missing, .url = url, .of_url = 0};
+}
+
 /* ---- worked journeys */
 
 static void small_post_journeys(void)
 {
     doing = "policy P";
     small_post();
-    worked(JOURNEY(0), told(0));
-    worked(JOURNEY(1), told(1));
-    worked(JOURNEY(2), told(1));
-    worked(JOURNEY(3), told(3));
-    worked(JOURNEY(0, 0), told(0));
-    worked(JOURNEY(1, 1, 1), told(1));
-    worked(JOURNEY(2, 1), told(1));
-    worked(JOURNEY(1, 2), told(JOURNEY_NO_CONNECTION));
-    worked(JOURNEY(3, 3), told(3));
-    worked(JOURNEY(3, 0), told(JOURNEY_NO_CONNECTION));
-    worked(JOURNEY(0, 1), told(JOURNEY_NO_CONNECTION));
-    worked(JOURNEY(4), refused(JOURNEY_BAD));
-    worked(JOURNEY(0, 64), refused(JOURNEY_BAD));
+    worked_on_each(JOURNEY(0), told(0));
+    worked_on_each(JOURNEY(1), told(1));
+    worked_on_each(JOURNEY(2), told(1));
+    worked_on_each(JOURNEY(3), told(3));
+    worked_on_each(JOURNEY(0, 0), told(0));
+    worked_on_each(JOURNEY(1, 1, 1), told(1));
+    worked_on_each(JOURNEY(2, 1), told(1));
+    worked_on_each(JOURNEY(1, 2), told(JOURNEY_NO_CONNECTION));
+    worked_on_each(JOURNEY(3, 3), told(3));
+    worked_on_each(JOURNEY(3, 0), told(JOURNEY_NO_CONNECTION));
+    worked_on_each(JOURNEY(0, 1), told(JOURNEY_NO_CONNECTION));
+    worked_on_each(JOURNEY(4), refused(JOURNEY_BAD));
+    worked_on_each(JOURNEY(0, 64), refused(JOURNEY_BAD));
 
     doing = "policy P, connection 0 fails on the last URL";
-    worked(JOURNEY(0, 3), told(3));
-    worked(JOURNEY(0, 0, 0, 0, 0, 0, 0, 0, 0, 0, 0, 0, 0, 0, 0, 0), told(0));
-    worked(JOURNEY(0, 0, 0, 0, 0, 0, 0, 0, 0, 0, 0, 0, 0, 0, 0, 3), told(JOURNEY_NO_CONNECTION));
-    worked(JOURNEY(0, 3, 3, 3, 3, 3, 3, 3, 3, 3, 3, 3, 3, 3, 3, 3), told(3));
+    worked_on_each(JOURNEY(0, 3), told(3));
+    worked_on_each(JOURNEY(0, 0, 0, 0, 0, 0, 0, 0, 0, 0, 0, 0, 0, 0, 0, 0), told(0));
+    worked_on_each(JOURNEY(0, 0, 0, 0, 0, 0, 0, 0, 0, 0, 0, 0, 0, 0, 0, 3), told(JOURNEY_NO_CONNECTION));
+    worked_on_each(JOURNEY(0, 3, 3, 3, 3, 3, 3, 3, 3, 3, 3, 3, 3, 3, 3, 3), told(3));
 
     doing = "policy P with entries";
     policy[3 * 2] += MONITOR_ENTRY;
-    worked(JOURNEY(1, 2, 1), told(1));
+    worked_on_each(JOURNEY(1, 2, 1), told(1));
     policy[3 * 0] += MONITOR_ENTRY;
-    worked(JOURNEY(3, 0, 3), told(3));
+    worked_on_each(JOURNEY(3, 0, 3), told(3));
 
     doing = "policy P with host 0 always https";
     small_post();
     list_host(0, 3, 0);
-    worked(JOURNEY(3), told(0));
-    worked(JOURNEY(0, 3, 0), told(0));
-    worked(JOURNEY(3, 3, 3), told(0));
-    worked(JOURNEY(67), refused(JOURNEY_BAD));
+    worked_on_each(JOURNEY(3), told(0));
+    worked_on_each(JOURNEY(0, 3, 0), told(0));
+    worked_on_each(JOURNEY(3, 3, 3), told(0));
+    worked_on_each(JOURNEY(67), refused(JOURNEY_BAD));
 }
 
 /* A canteen at host 0 and a bank at host 1, each by https and by http. */
@@ -275,34 +404,55 @@ static void payments(void)
     const struct span payment = JOURNEY(CANTEEN, BANK, CANTEEN), by_http = JOURNEY(CANTEEN_HTTP, BANK_HTTP, CANTEEN_HTTP);
     doing = "canteen, bank, canteen";
     canteen_and_bank();
-    worked(JOURNEY(CANTEEN), told(OWN));
-    worked(JOURNEY(CANTEEN, CANTEEN), told(OWN));
-    worked(JOURNEY(BANK), told(PAYING));
-    worked(payment, told(PAYING));
-    worked(by_http, told(JOURNEY_NO_CONNECTION));
+    worked_on_each(JOURNEY(CANTEEN), told(OWN));
+    worked_on_each(JOURNEY(CANTEEN, CANTEEN), told(OWN));
+    worked_on_each(JOURNEY(BANK), told(PAYING));
+    worked_on_each(payment, told(PAYING));
+    worked_on_each(by_http, told(JOURNEY_NO_CONNECTION));
     connection_words(PAYING)[0] = 0x00000001;
-    worked(payment, told(JOURNEY_NO_CONNECTION));
+    worked_on_each(payment, told(JOURNEY_NO_CONNECTION));
 
     doing = "canteen, bank, canteen, typed without a scheme";
     canteen_and_bank();
     list_host(0, CANTEEN_HTTP, CANTEEN);
-    worked(JOURNEY(CANTEEN_HTTP, BANK, CANTEEN_HTTP), told(PAYING));
-    worked(by_http, told(JOURNEY_NO_CONNECTION));
+    worked_on_each(JOURNEY(CANTEEN_HTTP, BANK, CANTEEN_HTTP), told(PAYING));
+    worked_on_each(by_http, told(JOURNEY_NO_CONNECTION));
     list_host(1, BANK_HTTP, BANK);
-    worked(by_http, told(PAYING));
+    worked_on_each(by_http, told(PAYING));
 
     doing = "a bank that takes no writer but itself";
     canteen_and_bank();
     policy[3 * BANK + 2] = 0x00020000;
-    worked(payment, told(JOURNEY_NO_CONNECTION));
-    worked(JOURNEY(BANK, CANTEEN), told(PAYING));
+    worked_on_each(payment, told(JOURNEY_NO_CONNECTION));
+    worked_on_each(JOURNEY(BANK, CANTEEN), told(PAYING));
     policy[3 * BANK] += MONITOR_ENTRY;
-    worked(payment, told(PAYING));
+    worked_on_each(payment, told(PAYING));
     list_host(1, BANK_HTTP, BANK);
-    worked(JOURNEY(CANTEEN, BANK_HTTP, CANTEEN), told(PAYING));
+    worked_on_each(JOURNEY(CANTEEN, BANK_HTTP, CANTEEN), told(PAYING));
     policy[3 * BANK] -= MONITOR_ENTRY;
     policy[3 * BANK_HTTP] += MONITOR_ENTRY;
-    worked(JOURNEY(CANTEEN, BANK_HTTP, CANTEEN), told(JOURNEY_NO_CONNECTION));
+    worked_on_each(JOURNEY(CANTEEN, BANK_HTTP, CANTEEN), told(JOURNEY_NO_CONNECTION));
+}
+
+/* Each refusal by each of the two sets, with a partner, and with nothing. */
+static void worked_stops(void)
+{
+    const struct span payment = JOURNEY(CANTEEN, BANK, CANTEEN);
+    doing = "where connections stop on the way to the bank and back";
+    canteen_and_bank();
+    stops(payment, PAYING, no_stop(3));
+    stops(payment, OWN, by_connection(1, MONITOR_READERS_FORBID, 1, BANK));
+    stops(payment, 0, by_connection(0, MONITOR_WRITERS_FORBID, 16, CANTEEN));
+    set_connection(OWN, 0x00000003, 0x00010000);
+    stops(payment, OWN, by_connection(1, MONITOR_WRITERS_FORBID, 17, BANK));
+    policy[3 * BANK + 2] = 0x00020000;
+    stops(payment, PAYING, by_url(1, MONITOR_WRITERS_FORBID, 16, BANK));
+    policy[3 * CANTEEN + 1] = 0x00000001;
+    stops(payment, PAYING, by_url(0, MONITOR_READERS_FORBID, 1, CANTEEN));
+    stops(JOURNEY(BANK, CANTEEN), PAYING, by_url(1, MONITOR_READERS_FORBID, 1, CANTEEN));
+    list_host(0, CANTEEN_HTTP, CANTEEN);
+    stops(JOURNEY(BANK, CANTEEN_HTTP, BANK), PAYING, by_url(1, MONITOR_READERS_FORBID, 1, CANTEEN));
+    stops(JOURNEY(CANTEEN_HTTP), 0, by_connection(0, MONITOR_WRITERS_FORBID, 16, CANTEEN));
 }
 
 /* ---- each condition */
@@ -333,7 +483,7 @@ static void conditions_at(size_t place, uint32_t fails, bool is_entry)
     const uint32_t connections[] = {0, 1 + (uint32_t)calls % (CONNECTIONS - 2), CONNECTIONS - 1};
     for (size_t i = 0; i < sizeof connections / sizeof *connections; i++) {
         fail_at(place, connections[i], fails, is_entry);
-        gives(journey, told(asked == 0 ? connections[i] : JOURNEY_NO_CONNECTION));
+        gives_on(MONITOR_POLICY_WORDS, journey, told(asked == 0 ? connections[i] : JOURNEY_NO_CONNECTION), connections[i]);
     }
 }
 
@@ -375,15 +525,6 @@ static void set_carrying(uint32_t connections, size_t length)
         const size_t place = calls % 2 == 0 ? length - 1 : (calls + connection) % length;
         set_connection(connection, UINT32_MAX, does ? UINT32_MAX : ~(UINT32_C(1) << place));
     }
-}
-
-static uint32_t lowest(uint32_t set)
-{
-    uint32_t member = 0;
-    while (member < 32 && (set >> member & 1u) == 0) {
-        member++;
-    }
-    return member;
 }
 
 /* URLs that everyone reads and writes: the lowest connection that carries them is told, whichever else do. */
@@ -505,6 +646,8 @@ static void each_partner(void)
             worked(once, told(is_open != 0 ? 4 : 9));
             worked(twice, told(is_open != 0 ? 4 : JOURNEY_NO_CONNECTION));
             worked(away, told(is_open != 0 ? 4 : JOURNEY_NO_CONNECTION));
+            stops(away, is_open != 0 ? 4 : 9, is_open != 0 ? no_stop(3) : by_url(1, MONITOR_WRITERS_FORBID, host + HOSTS, other));
+            stops(once, is_open != 0 ? 9 : 4, is_open != 0 ? no_stop(1) : by_url(0, MONITOR_READERS_FORBID, host == 0 ? 1 : 0, other));
             policy[3u * row] += MONITOR_ENTRY;
             worked(twice, told(is_open != 0 ? 4 : JOURNEY_NO_CONNECTION));
             policy[3u * other] += MONITOR_ENTRY;
@@ -533,6 +676,23 @@ static void each_bit_of_the_policy(void)
     check(with_each_bit(found_by_http) > 1000, "next to nothing was refused");
 }
 
+/* A connection that there is not, whatever its low bits are. */
+static void connections_above(void)
+{
+    doing = "connections that there are not";
+    small_post();
+    for (uint32_t connection = CONNECTIONS; connection < 10 * CONNECTIONS; connection++) {
+        gives_on(MONITOR_POLICY_WORDS, JOURNEY(0), told(0), connection);
+        gives_on(MONITOR_POLICY_WORDS, JOURNEY(0), told(0), ~connection);
+    }
+    for (unsigned bit = 5; bit < 32; bit++) {
+        gives_on(MONITOR_POLICY_WORDS, JOURNEY(0, 3), told(3), UINT32_C(1) << bit);
+        gives_on(MONITOR_POLICY_WORDS, JOURNEY(0, 3), told(3), UINT32_C(1) << bit | 3u);
+        gives_on(MONITOR_POLICY_WORDS, JOURNEY(4), refused(JOURNEY_BAD), UINT32_C(1) << bit);
+        gives_on(MONITOR_POLICY_WORDS - 1, JOURNEY(4), refused(JOURNEY_POLICY_BAD), UINT32_C(1) << bit);
+    }
+}
+
 /* The policy is asked about first. */
 static void each_order(void)
 {
@@ -555,6 +715,9 @@ static void null_pointers(void)
     check(same(journey_find(NULL, 0, NULL, 0), refused(JOURNEY_POLICY_BAD)), "nothing at all gives something else");
     check(same(journey_find(NULL, 0, urls, 1), refused(JOURNEY_POLICY_BAD)), "no policy gives something else");
     check(same(journey_find(policy, MONITOR_POLICY_WORDS, NULL, 0), refused(JOURNEY_BAD)), "no journey gives something else");
+    check(same_stop(journey_stop(NULL, 0, NULL, 0, CONNECTIONS), refused_stop(JOURNEY_POLICY_BAD)), "nothing at all stops otherwise");
+    check(same_stop(journey_stop(NULL, 0, urls, 1, 0), refused_stop(JOURNEY_POLICY_BAD)), "no policy stops otherwise");
+    check(same_stop(journey_stop(policy, MONITOR_POLICY_WORDS, NULL, 0, CONNECTIONS), refused_stop(JOURNEY_BAD)), "no journey stops otherwise");
 }
 
 /* ---- random policies */
@@ -582,6 +745,9 @@ static void random_policies(void)
             const struct span journey = random_journey(urls);
             found_as_slowly(journey);
             const struct journey_found want = is_well_formed() ? found_slowly(journey) : refused(JOURNEY_POLICY_BAD);
+            if (k % 8 == 0) {
+                gives_on_each(journey, want);
+            }
             numbers[want.number]++;
             connections[want.connection] += want.number == JOURNEY_ACCEPTED;
         }
@@ -599,6 +765,7 @@ int main(void)
     journey_pages = map_pages();
     small_post_journeys();
     payments();
+    worked_stops();
     each_condition();
     each_endpoint();
     each_search();
@@ -608,11 +775,12 @@ int main(void)
     lengths_of_the_policy();
     each_partner();
     each_bit_of_the_policy();
+    connections_above();
     each_order();
     null_pointers();
     random_policies();
     printf("journeys: policy P, canteen and bank, each condition at each place, every lowest connection, every number, partners, every length, "
-           "refusals and random policies agree with the monitor: %lu calls\n",
+           "where connections stop, refusals and random policies agree with the monitor: %lu calls\n",
            calls);
     return 0;
 }

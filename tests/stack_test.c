@@ -1,7 +1,7 @@
 /* Links libmonitor.a, libusage.a, libcookie.a, libjourneys.a and libreach_table.a: how much stack one call takes. The call runs on a stack of its own
  * that was painted before, so that what it wrote is seen afterwards; the same call of a function that does nothing is taken off. Printed for the
  * calls that could take most: the largest output, the longest script, everything that is refused, lists that are counted, lines that are read,
- * journeys that are carried or not, reach tables; and bounded, so that it is seen where it grows. */
+ * journeys that are carried or not, connections that stop, reach tables; and bounded, so that it is seen where it grows. */
 #define _XOPEN_SOURCE 700
 #include <stdbool.h>
 #include <stdio.h>
@@ -24,6 +24,7 @@ typedef void calls(void);
 typedef struct usage_tally counts(const uint8_t *, size_t);
 typedef struct cookie_imported imports(uint32_t, const uint8_t *, size_t, const uint8_t *, size_t);
 typedef struct journey_found finds(const uint32_t *, size_t, const uint8_t *, size_t);
+typedef struct journey_stop stops(const uint32_t *, size_t, const uint8_t *, size_t, uint32_t);
 typedef struct reach_table reaches(const uint32_t *, size_t);
 typedef bool fits(const uint32_t *, size_t, uint32_t, uint32_t);
 typedef struct monitor_answer feeds(const uint32_t *, size_t, const uint8_t *, size_t, uint32_t *, size_t, const uint8_t *, size_t, uint8_t *, size_t);
@@ -40,8 +41,11 @@ static uint8_t line[LINE_BYTES];
 static uint32_t host;
 static finds *finder;
 static struct journey_found found;
+static stops *stopper;
+static struct journey_stop stopped;
 static uint8_t urls[JOURNEY_MOST_URLS + 1];
 static size_t policy_words, journey_urls;
+static uint32_t stopping;
 static reaches *reacher;
 static struct reach_table table;
 static fits *fitter;
@@ -76,6 +80,12 @@ static struct journey_found finds_nothing(const uint32_t *p, size_t pn, const ui
     return (struct journey_found){.number = 0};
 }
 
+static struct journey_stop stops_nowhere(const uint32_t *p, size_t pn, const uint8_t *u, size_t un, uint32_t c)
+{
+    (void)p, (void)pn, (void)u, (void)un, (void)c;
+    return (struct journey_stop){.number = 0};
+}
+
 static struct reach_table reaches_nothing(const uint32_t *p, size_t pn)
 {
     (void)p, (void)pn;
@@ -101,6 +111,11 @@ static void import(void)
 static void find(void)
 {
     found = finder(policy, policy_words, urls, journey_urls);
+}
+
+static void stop(void)
+{
+    stopped = stopper(policy, policy_words, urls, journey_urls, stopping);
 }
 
 static void reach(void)
@@ -249,6 +264,19 @@ static void measure_find(const char *name, uint32_t number, uint32_t connection)
     }
 }
 
+static void measure_stop(const char *name, uint32_t number, uint32_t place)
+{
+    stopper = stops_nowhere;
+    size_t around = depth(stop);
+    stopper = journey_stop;
+    stop(); /* as above */
+    bound(name, depth(stop) - around, MOST);
+    if (stopped.number != number || stopped.place != place) {
+        fprintf(stderr, "stack: %s: answered %u %u\n", name, stopped.number, stopped.place);
+        exit(EXIT_FAILURE);
+    }
+}
+
 static void measure_reach(const char *name, uint32_t number, uint32_t all)
 {
     reacher = reaches_nothing;
@@ -327,8 +355,12 @@ static void journeys(void)
         urls[place] = place;
     }
     measure_find("a journey that connection 0 carries", JOURNEY_ACCEPTED, 0);
+    measure_stop("a connection that stops nowhere", JOURNEY_ACCEPTED, JOURNEY_MOST_URLS);
     policy[3 * (JOURNEY_MOST_URLS - 1) + 2] = UINT32_MAX >> 1;
     measure_find("a journey that no connection carries", JOURNEY_ACCEPTED, JOURNEY_NO_CONNECTION);
+    measure_stop("a connection that stops at the last URL", JOURNEY_ACCEPTED, JOURNEY_MOST_URLS - 1);
+    stopping = UINT32_MAX;
+    measure_stop("a connection that there is not", JOURNEY_CONNECTION_UNKNOWN, 0);
     urls[JOURNEY_MOST_URLS - 1] = URLS;
     measure_find("a journey to a URL that there is not", JOURNEY_BAD, 0);
     journey_urls = JOURNEY_MOST_URLS + 1;

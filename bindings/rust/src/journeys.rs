@@ -1,11 +1,12 @@
-//! Journeys, with the feature `journeys`: the lowest connection of a policy on which a list of URLs can be visited, each reached from the one before.
+//! Journeys, with the feature `journeys`: the lowest connection of a policy on which a list of URLs can be visited, each reached from the one before;
+//! and where and why a connection stops on the way.
 //!
 //! A journey is one to [`MOST_URLS`] URLs, each its number in the policy: the first is loaded, and each further one is reached by a redirect from
-//! the one before, all on the same connection. [`find`] is the whole of it:
+//! the one before, all on the same connection. [`find`] tells the connection for it, and [`stop`] why another does not do:
 //!
 //! ```
-//! use zolherima::journeys::{find, Refusal};
-//! use zolherima::{NO_PARTNER, NO_URL, POLICY_WORDS};
+//! use zolherima::journeys::{find, stop, Lacking, Refusal, Stop};
+//! use zolherima::{Endpoint, NO_PARTNER, NO_URL, POLICY_WORDS};
 //!
 //! // URL 0 is a canteen and URL 1 a bank, by https at host 0 and host 1 (endpoints 16 and 17). Who sees either host on the wire may learn of both,
 //! // and both may be shaped by each other.
@@ -25,12 +26,21 @@
 //! // The canteen is loaded on either. To the bank and back there is only connection 7.
 //! assert_eq!(find(&policy, &[CANTEEN]), Ok(Some(4)));
 //! assert_eq!(find(&policy, &[CANTEEN, BANK, CANTEEN]), Ok(Some(7)));
+//! assert_eq!(stop(&policy, &[CANTEEN, BANK, CANTEEN], 7), Ok(None));
 //!
-//! // Without the bank as a writer of that connection there is none, which is no refusal.
+//! // Without the bank as a writer of that connection there is none, which is no refusal. It stops at the bank, the second URL.
 //! policy[448 + 3 * 7 + 2] = 0x0001_0000;
 //! assert_eq!(find(&policy, &[CANTEEN, BANK, CANTEEN]), Ok(None));
+//! let bank = Endpoint::new(17).unwrap();
+//! let expected = Stop {
+//!     place: 1,
+//!     refusal: zolherima::Refusal::WritersForbid { missing: bank },
+//!     lacking: Lacking::Connection(7),
+//! };
+//! assert_eq!(stop(&policy, &[CANTEEN, BANK, CANTEEN], 7), Ok(Some(expected)));
 //!
 //! assert_eq!(find(&policy, &[CANTEEN, 2]), Err(Refusal::Journey));
+//! assert_eq!(stop(&policy, &[CANTEEN], 32), Err(Refusal::Connection));
 //! assert_eq!(find(&policy[1..], &[CANTEEN]), Err(Refusal::Policy));
 //! ```
 //!
@@ -43,7 +53,8 @@
 //!
 //! So [`feed`](crate::feed) takes the journey on the connection that is told: from a state of zeros it accepts the load and then each redirect
 //! without cookies. This is proved, and that no lower connection carries the journey. A redirect's record names the URL that the connection then
-//! holds, which is the one before, or its partner where it has one.
+//! holds, which is the one before, or its partner where it has one. And on a connection that stops `feed` accepts what is before the stop, and
+//! answers there what is told; this is proved too, and that the set that is told lacks the endpoint.
 //!
 //! Nothing is kept between calls and nothing is allocated. What else there is to say is in `include/journeys.h`.
 
@@ -64,11 +75,13 @@ pub enum Refusal {
     /// The journey is empty, has more than [`MOST_URLS`] URLs, or names one that the policy does not have: a number above 63, or a row that is
     /// not in use. The numbers are asked about as they are given, before any is replaced by its partner.
     Journey = 17,
+    /// The connection is above 31. [`stop`] alone answers it.
+    Connection = 6,
 }
 
 impl Refusal {
     /// Every refusal, in the order in which they are asked.
-    pub const LIST: [Refusal; 2] = [Refusal::Policy, Refusal::Journey];
+    pub const LIST: [Refusal; 3] = [Refusal::Policy, Refusal::Journey, Refusal::Connection];
 
     /// The number that C programs see.
     pub const fn number(self) -> u32 {
@@ -87,6 +100,7 @@ impl fmt::Display for Refusal {
         to.write_str(match self {
             Refusal::Policy => "the policy has the wrong length or is not well formed",
             Refusal::Journey => "the journey is empty, too long, or names a URL that there is not",
+            Refusal::Connection => "there is no such connection",
         })
     }
 }
@@ -129,12 +143,97 @@ fn refusal(number: u32, connection: u32) -> Refusal {
     })
 }
 
+/// Where and why a connection stops on a journey.
+#[derive(Clone, Copy, Debug, PartialEq, Eq, Hash)]
+pub struct Stop {
+    /// The first URL that the connection does not take, by its place in the journey, from 0 on.
+    pub place: u32,
+    /// What [`feed`](crate::feed) answers there: [`ReadersForbid`](crate::Refusal::ReadersForbid) or
+    /// [`WritersForbid`](crate::Refusal::WritersForbid), with the missing endpoint.
+    pub refusal: crate::Refusal,
+    /// Whose set lacks the endpoint, of readers or of writers as the refusal says.
+    pub lacking: Lacking,
+}
+
+/// Whose set lacks an endpoint.
+#[derive(Clone, Copy, Debug, PartialEq, Eq, Hash)]
+pub enum Lacking {
+    /// That of the URL that is asked for: the partner of the one that the journey names, or that one itself. The connection's set has the endpoint.
+    Url(u32),
+    /// That of the connection. The endpoint is the URL's own: http at its host where readers forbid it, and its address where writers do.
+    Connection(u32),
+}
+
+/// Tells where and why a connection stops on a journey; nothing where it carries it.
+///
+/// Any contents, lengths and numbers are allowed: whatever does not fit is refused.
+///
+/// # Panics
+///
+/// Where the library answers something that is none of these. By its contract it never does: the `libjourneys.a` that is linked would have to be of
+/// another version than this crate.
+#[inline]
+pub fn stop(policy: &[u32], urls: &[u8], connection: u32) -> Result<Option<Stop>, Refusal> {
+    // SAFETY: as in `find`.
+    let stop = unsafe {
+        c::journey_stop(
+            policy.as_ptr(),
+            policy.len(),
+            urls.as_ptr(),
+            urls.len(),
+            connection,
+        )
+    };
+    stopped(&stop, connection).unwrap_or_else(|| unknown_stop(&stop))
+}
+
+/// None where the answer is not known.
+#[inline]
+fn stopped(stop: &c::Stop, connection: u32) -> Option<Result<Option<Stop>, Refusal>> {
+    match (stop.number, stop.refusal) {
+        (0, 0) => Some(Ok(None)),
+        (0, _) => Some(Ok(Some(stop_of(stop, connection)?))),
+        (number, _) => Some(Err(Refusal::of(number)?)),
+    }
+}
+
+#[inline]
+fn stop_of(stop: &c::Stop, connection: u32) -> Option<Stop> {
+    let refusal = crate::Refusal::of(stop.refusal, stop.missing)?;
+    refusal.missing()?;
+    Some(Stop {
+        place: stop.place,
+        refusal,
+        lacking: match stop.of_url {
+            0 => Lacking::Connection(connection),
+            1 => Lacking::Url(stop.url),
+            _ => return None,
+        },
+    })
+}
+
+#[cold]
+fn unknown_stop(stop: &c::Stop) -> ! {
+    crate::unknown("libjourneys.a", format_args!("{stop:?}"))
+}
+
 /// What `include/journeys.h` declares.
 mod c {
     #[repr(C)]
     pub struct Found {
         pub number: u32,
         pub connection: u32,
+    }
+
+    #[derive(Clone, Copy, Debug)]
+    #[repr(C)]
+    pub struct Stop {
+        pub number: u32,
+        pub place: u32,
+        pub refusal: u32,
+        pub missing: u32,
+        pub url: u32,
+        pub of_url: u32,
     }
 
     extern "C" {
@@ -144,6 +243,14 @@ mod c {
             urls: *const u8,
             urls_length: usize,
         ) -> Found;
+
+        pub fn journey_stop(
+            policy: *const u32,
+            policy_length: usize,
+            urls: *const u8,
+            urls_length: usize,
+            connection: u32,
+        ) -> Stop;
     }
 }
 
@@ -154,7 +261,7 @@ mod tests {
     #[test]
     fn a_number_is_that_of_its_refusal_or_of_none() {
         for number in (0..1000).chain([u32::MAX]) {
-            let known = [2, 17].contains(&number);
+            let known = [2, 17, 6].contains(&number);
             let refusal = Refusal::of(number).map(Refusal::number);
             assert_eq!(refusal, known.then_some(number));
         }
@@ -180,5 +287,63 @@ mod tests {
     #[should_panic(expected = "libjourneys.a answers 0, connection 33, which this crate does not")]
     fn a_connection_that_there_is_not_is_told() {
         let _ = answer(0, 33);
+    }
+    const STOP: c::Stop = c::Stop {
+        number: 0,
+        place: 2,
+        refusal: 8,
+        missing: 17,
+        url: 5,
+        of_url: 0,
+    };
+
+    #[test]
+    fn a_stop_has_the_set_of_its_url_or_of_the_connection() {
+        let stop = |of_url| stopped(&c::Stop { of_url, ..STOP }, 7).and_then(Result::ok);
+        let missing = crate::Endpoint::new(17).unwrap();
+        let told = |lacking| {
+            Some(Some(Stop {
+                place: 2,
+                refusal: crate::Refusal::ReadersForbid { missing },
+                lacking,
+            }))
+        };
+        assert_eq!(stop(0), told(Lacking::Connection(7)));
+        assert_eq!(stop(1), told(Lacking::Url(5)));
+        assert_eq!(stop(2), None);
+    }
+
+    #[test]
+    fn a_stop_is_by_readers_or_writers_and_has_an_endpoint() {
+        for refusal in (0..1000).chain([u32::MAX]) {
+            for missing in (0..40).chain([u32::MAX]) {
+                let stop = c::Stop {
+                    refusal,
+                    missing,
+                    ..STOP
+                };
+                let told = stopped(&stop, 7).map(|told| told.unwrap().map(|stop| stop.refusal));
+                let expected = match refusal {
+                    0 => Some(None),
+                    8 | 9 => crate::Refusal::of(refusal, missing).map(Some),
+                    _ => None,
+                };
+                assert_eq!(told, expected, "{refusal}, {missing}");
+            }
+        }
+    }
+
+    #[test]
+    fn a_stop_that_is_refused_has_its_refusal() {
+        for number in (1..1000).chain([u32::MAX]) {
+            let told = stopped(&c::Stop { number, ..STOP }, 7).map(Result::unwrap_err);
+            assert_eq!(told, Refusal::of(number));
+        }
+    }
+
+    #[test]
+    #[should_panic(expected = "libjourneys.a answers Stop { number: 0, place: 2, refusal: 8, ")]
+    fn a_stop_that_is_not_known_is_told() {
+        unknown_stop(&STOP);
     }
 }

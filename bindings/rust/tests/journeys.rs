@@ -1,12 +1,13 @@
-//! Journeys through the binding: which connection is told, partners and entries, each refusal, and that a monitor takes what is told.
+//! Journeys through the binding: which connection is told, partners and entries, each refusal, that a monitor takes what is told, and that it refuses
+//! a connection that stops where and as is told.
 
 mod policies;
 
 use std::error::Error;
 
 use policies::{empty, listed_post, set_connection, set_url, small_post, Policy, ALL};
-use zolherima::journeys::{find, Refusal, MOST_URLS};
-use zolherima::{feed, ENTRY, OUT_BYTES, POLICY_WORDS, SCRIPT_BYTES, STATE_WORDS};
+use zolherima::journeys::{find, stop, Lacking, Refusal, Stop, MOST_URLS};
+use zolherima::{feed, Endpoint, ENTRY, OUT_BYTES, POLICY_WORDS, SCRIPT_BYTES, STATE_WORDS};
 
 #[test]
 fn the_lowest_connection_that_carries_it_is_told() {
@@ -116,7 +117,7 @@ fn the_policy_is_asked_about_first() {
 
 #[test]
 fn a_refusal_has_its_number_and_its_words() {
-    assert_eq!(Refusal::LIST.map(Refusal::number), [2, 17]);
+    assert_eq!(Refusal::LIST.map(Refusal::number), [2, 17, 6]);
     for refusal in Refusal::LIST {
         let error: Box<dyn Error> = Box::new(refusal);
         assert!(error.to_string().len() > 10, "{error}");
@@ -125,30 +126,120 @@ fn a_refusal_has_its_number_and_its_words() {
     assert_eq!(Refusal::Policy.to_string(), words);
 }
 
-/// Whether a monitor with an empty state takes the journey on a connection: a load, and redirects that name the URL that is held.
-fn takes(policy: &Policy, journey: &[u8], connection: u8) -> bool {
+/// The first place at which a monitor with an empty state does not take the journey on a connection, a load and then redirects that name the URL that
+/// is held, and what it answers there.
+fn refused(policy: &Policy, journey: &[u8], connection: u8) -> Option<(u32, zolherima::Refusal)> {
     let scripts = [0; SCRIPT_BYTES];
     let (mut state, mut out) = ([0; STATE_WORDS], [0; OUT_BYTES]);
-    journey.iter().enumerate().all(|(place, &url)| {
+    journey.iter().zip(0..).find_map(|(&url, place)| {
         let held = state[144 + usize::from(connection)] as u8;
         let redirect = [0x23, held, connection, url];
         let load = [0x03, url, connection];
         let record: &[u8] = if place == 0 { &load } else { &redirect };
-        feed(policy, &scripts, &mut state, record, &mut out).is_ok()
+        let fed = feed(policy, &scripts, &mut state, record, &mut out);
+        Some((place, fed.err()?))
+    })
+}
+
+/// The journeys of one to four of the small post's URLs.
+fn short_journeys() -> impl Iterator<Item = Vec<u8>> {
+    (0..256u32).flat_map(|journey| {
+        let journey = [0, 2, 4, 6].map(|at| (journey >> at & 3) as u8);
+        (1..=journey.len()).map(move |length| journey[..length].to_vec())
     })
 }
 
 #[test]
 fn a_monitor_takes_what_is_told_and_nothing_below() {
     for policy in [small_post(), listed_post()] {
-        for journey in 0..256u32 {
-            let journey = [0, 2, 4, 6].map(|at| (journey >> at & 3) as u8);
-            for length in 1..=journey.len() {
-                let journey = &journey[..length];
-                let lowest = (0..32).find(|&connection| takes(&policy, journey, connection));
-                let told = find(&policy, journey);
-                assert_eq!(told, Ok(lowest.map(u32::from)), "{journey:?}");
+        for journey in short_journeys() {
+            let takes = |&connection: &u8| refused(&policy, &journey, connection).is_none();
+            let lowest = (0..32).find(takes);
+            let told = find(&policy, &journey);
+            assert_eq!(told, Ok(lowest.map(u32::from)), "{journey:?}");
+        }
+    }
+}
+
+#[test]
+fn a_monitor_refuses_where_and_as_is_told() {
+    for policy in [small_post(), listed_post()] {
+        for journey in short_journeys() {
+            for connection in [0, 1, 2, 3, 4, 31] {
+                let told = stop(&policy, &journey, connection.into()).unwrap();
+                let told = told.map(|stop| (stop.place, stop.refusal));
+                let expected = refused(&policy, &journey, connection);
+                assert_eq!(told, expected, "{journey:?} on {connection}");
             }
         }
     }
+}
+
+/// By the set of the URL or of the connection, for want of an endpoint.
+fn by_readers(place: u32, missing: u32, lacking: Lacking) -> Result<Option<Stop>, Refusal> {
+    let missing = Endpoint::new(missing).unwrap();
+    Ok(Some(Stop {
+        place,
+        refusal: zolherima::Refusal::ReadersForbid { missing },
+        lacking,
+    }))
+}
+
+fn by_writers(place: u32, missing: u32, lacking: Lacking) -> Result<Option<Stop>, Refusal> {
+    let missing = Endpoint::new(missing).unwrap();
+    Ok(Some(Stop {
+        place,
+        refusal: zolherima::Refusal::WritersForbid { missing },
+        lacking,
+    }))
+}
+
+#[test]
+fn each_condition_has_its_set() {
+    // URLs by https at host 1, on a connection with endpoints 1 and 17 on which nothing stops, until one of them lacks something.
+    let stopping = |lack: fn(&mut Policy)| {
+        let mut policy = empty();
+        for url in 0..2 {
+            set_url(&mut policy, url, [17, ALL, ALL]);
+        }
+        set_connection(&mut policy, 9, 0x0002_0002, 0x0003_0000);
+        lack(&mut policy);
+        stop(&policy, &[0, 1], 9)
+    };
+    let (url, connection) = (Lacking::Url(1), Lacking::Connection(9));
+    assert_eq!(stopping(|_| ()), Ok(None));
+    let readers = stopping(|policy| policy[3 + 1] -= 0x0002_0000);
+    assert_eq!(readers, by_readers(1, 17, url));
+    let writers = stopping(|policy| policy[3 + 2] -= 0x0001_0000);
+    assert_eq!(writers, by_writers(1, 16, url));
+    let event = stopping(|policy| set_connection(policy, 9, 0x0002_0000, 0x0003_0000));
+    assert_eq!(event, by_readers(1, 1, connection));
+    let message = stopping(|policy| set_connection(policy, 9, 0x0002_0002, 0x0001_0000));
+    assert_eq!(message, by_writers(0, 17, connection));
+}
+
+#[test]
+fn the_partner_is_asked_for_and_told() {
+    let mut policy = listed_post();
+    policy[1] = 1; // URL 0, the partner of 3, may be known by http at host 0 alone
+    set_connection(&mut policy, 9, 0x0001_0001, 0x0001_0000);
+    let expected = by_readers(0, 16, Lacking::Url(0));
+    assert_eq!(stop(&policy, &[3], 9), expected);
+}
+
+#[test]
+fn a_connection_is_one_of_32_and_asked_about_last() {
+    let policy = small_post();
+    for connection in 0..32 {
+        assert!(stop(&policy, &[0], connection).is_ok());
+    }
+    for connection in [32, 33, 63, 64, 255, 256, 1 << 16, u32::MAX] {
+        let refused = Err(Refusal::Connection);
+        assert_eq!(stop(&policy, &[0], connection), refused);
+        assert_eq!(stop(&policy, &[64], connection), Err(Refusal::Journey));
+        assert_eq!(stop(&policy, &[], connection), Err(Refusal::Journey));
+        assert_eq!(stop(&policy[1..], &[], connection), Err(Refusal::Policy));
+    }
+    assert_eq!(stop(&policy, &[64], 0), Err(Refusal::Journey));
+    assert_eq!(stop(&policy[1..], &[0], 0), Err(Refusal::Policy));
 }

@@ -1,5 +1,6 @@
 -- How much room the pieces of a line take at most, and what is printed by what is answered.
-use Rattle.prelude.proofs.Kit.{ℕ, _≤_, _+_, arith, true, Bool, false, cond, List, _++_, _≡_, sym, _∙_, ap, ap₂, length, length-append, getD, eqb, eq-eqb, ne-eqb}
+use Rattle.prelude.proofs.Kit.{ℕ, _≤_, _+_, arith, true, Bool, false, cond, List, _++_, _≡_, sym, _∙_, refl, ap, ap₂, length, length-append, getD, eqb, eq-eqb, ne-eqb}
+use Rattle.prelude.specs.Choice.{branch}
 use Rattle.prelude.specs.Refusals.{accepted}
 use Rattle.prelude.proofs.Choices.{is-false}
 use Rattle.text.specs.Text.{ascii, decimal}
@@ -7,10 +8,11 @@ use Rattle.text.proofs.Decimals.{decimal-ten, number-room}
 use Rattle.machine.specs.Policy.{connections}
 use Rattle.machine.specs.Machine.{readersForbid, Verdict}
 use Rattle.journeys.specs.declared.Found.{Found}
-use Rattle.journeys.specs.Journey.{urlAt, judged, carries, found, failsAt}
+use Rattle.journeys.specs.declared.Stop.{Stop}
+use Rattle.journeys.specs.Journey.{urlAt, judged, carries, found, failsAt, ofUrl, stopAt}
 use Rattle.journeys.specs.Given.{Journey}
 use Rattle.journeys.proofs.Guarantees.{asked-given, carries-none, none-is-told}
-use Rattle.journey.specs.Report.{ofUrl, labelled, headText, placeText, setText, ownerText, lackText, whyText, failureText, noneText, refusalText, foundText, report, NoneCarries, lineRoom}
+use Rattle.journey.specs.Report.{labelled, headText, placeText, setText, ownerText, lackText, whyText, failureText, noneText, refusalText, foundText, report, NoneCarries, lineRoom}
 
 -- words and a number
 pub labelled-room : (words : List ℕ) (n : ℕ) → length (words ++ decimal n) ≤ length words + 10
@@ -66,6 +68,11 @@ why-room c u nth count v b asked =
       length-append (placeText u nth count) (lackText v b asked c),
     )
 
+is-digit : (b : Bool) → eqb (branch b 1 0) 1 ≡ b
+unfolding branch
+is-digit true = refl
+is-digit false = refl
+
 module _ (p urls : List ℕ) where
   pub line-room : (c : ℕ) → length (failureText p urls c) ≤ lineRoom
   unfolding failureText
@@ -74,11 +81,12 @@ module _ (p urls : List ℕ) where
       let v = judged p urls c i in
       why-room c (getD urls i 0) (i + 1) (length urls) v (ofUrl p c (urlAt p urls i) v) (urlAt p urls i)
 
-  -- the line, by what the code has found
-  pub line-is : (c i : ℕ) (v : Verdict) (b : Bool) (asked : ℕ) → i ≡ failsAt p urls c → v ≡ judged p urls c i → asked ≡ urlAt p urls i → b ≡ ofUrl p c asked v
-      → whyText c (getD urls i 0) (i + 1) (length urls) v b asked ≡ failureText p urls c
+  -- the line, by the stop that the code has found
+  pub line-is : (c : ℕ) (s : Stop) → s ≡ stopAt p urls c (failsAt p urls c)
+      → whyText c (getD urls (s .place) 0) (s .place + 1) (length urls) (record { number = s .refusal; missing = s .missing }) (eqb (s .«of_url») 1) (s .url)
+      ≡ failureText p urls c
   unfolding failureText
-  line-is c i v b asked e f g h = rw (h, g, f, e)
+  line-is c s e = let i = failsAt p urls c in rw (e, is-digit (ofUrl p c (urlAt p urls i) (judged p urls c i)))
 
   -- ---- what is printed
 

@@ -2,27 +2,20 @@
 -- refusal.
 use Prim.Native.Nat.{ℕ, _+_, _*_, _<_}
 use Prim.Native.String.{String}
-use mathlib.Core.Bool.{Bool, false, not, cond}
+use mathlib.Core.Bool.{Bool, false, cond}
 use mathlib.Core.List.{List, [], _∷_, _++_}
 use mathlib.Core.Path.{_≡_}
 use lib.Dec.{eqb}
 use lib.ListN.{length, getD}
 use Rattle.prelude.specs.Refusals.{accepted}
 use Rattle.text.specs.Text.{ascii, decimal, piecesBelow}
-use Rattle.machine.specs.Policy.{connections, fitMissingReader, fitMissingWriter}
+use Rattle.machine.specs.Policy.{connections}
 use Rattle.machine.specs.Machine.{readersForbid, policyBad, Verdict}
 use Rattle.transcript.specs.Input.{policyIn}
 use Rattle.journeys.specs.declared.Found.{Found}
-use Rattle.journeys.specs.Journey.{urlAt, judged, carries, found, failsAt}
+use Rattle.journeys.specs.Journey.{urlAt, judged, carries, found, failsAt, ofUrl}
 
 -- ---- why a connection fails
-
--- Whether the endpoint is missing in a set of the URL, and not of the connection. By 8 it is where it is what is missing for the connection to fit the
--- URL; else it is the URL's event endpoint, which the connection's readers lack. By 9 it is where it is not what is missing for the connection to
--- fit the URL, which is the URL's message endpoint.
-unfoldable pub ofUrl : List ℕ → ℕ → ℕ → Verdict → Bool
-ofUrl p c u v =
-    cond (eqb (v .number) readersForbid) (eqb (v .missing) (fitMissingReader p c u)) (not (eqb (v .missing) (fitMissingWriter p c u)))
 
 -- words, and a number behind them
 abbrev pub labelled : String → ℕ → List ℕ

@@ -5,12 +5,11 @@ ghost use mathlib.Core.List.{_++_};
 ghost use Prim.Native.Nat.{_+_, _<_, _≤_};
 ghost use lib.ListN.{length};
 ghost use Rattle.machine.specs.Policy.{connections};
-ghost use Rattle.policy.specs.Given.{WellFormed, Url};
 ghost use Rattle.text.specs.Text.{decimal, Wrote, AtFront};
 ghost use Rattle.journeys.specs.Journey.{carries};
 ghost use Rattle.journeys.specs.Legs.{verdict};
 ghost use Rattle.journeys.specs.Given.{Journey};
-ghost use Rattle.journey.specs.Report.{ofUrl, headText, placeText, setText, ownerText, lackText, failureText};
+ghost use Rattle.journey.specs.Report.{headText, placeText, setText, ownerText, lackText, failureText};
 ghost use Rattle.journey.specs.Report.{whyText, noneText, refusalText, report, lineRoom, reportRoom, NoneCarries};
 use journeys::ACCEPTED;
 use journeys::NO_CONNECTION;
@@ -18,11 +17,7 @@ use journeys::POLICY_BAD;
 use journeys::journey_find;
 use journeys::legs::Judged;
 use journeys::legs::READERS_FORBID;
-use journeys::legs::judge;
-use journeys::search::fails_at;
-use policy::fit_missing_reader;
-use policy::fit_missing_writer;
-use policy::upgraded;
+use journeys::stops::first_stop;
 use policy::words::CONNECTIONS;
 use text::write_bytes;
 use text::write_decimal;
@@ -93,17 +88,6 @@ fn write_owner(text: &mut [u8], at: usize, of_url: bool, url: u32, connection: u
     write_labelled(text, at, b"connection ", connection)
 }
 
-// Whether the endpoint that is missing is missing in a set of the URL, and not of the connection.
-fn url_lacks(policy: &[u32], connection: usize, url: usize, number: u32, missing: u32) -> bool
-    requires { ⌜ WellFormed (now policy) × (connection < connections) × Url (now policy) url ⌝ }
-    ensures { λ r. ⌜ r ≡ ofUrl (now (policy .entry)) connection url (record { number = number; missing = missing }) ⌝ }
-{
-    if number == READERS_FORBID {
-        return missing == fit_missing_reader(policy, connection, url);
-    }
-    missing != fit_missing_writer(policy, connection, url)
-}
-
 fn write_lack(
     text: &mut [u8],
     at: usize,
@@ -153,20 +137,22 @@ fn write_failure(
         × (carries (now policy) (now urls) connection ≡ false) ⌝ }
     ensures { λ r. ⌜ Wrote (now (text .entry)) at (failureText (now (policy .entry)) (now (urls .entry)) connection) (now (text .exit)) r ⌝ }
 {
-    let place = fails_at(policy, connection, urls);
-    let told = judge(policy, connection, urls, place);
-    let asked = upgraded(policy, urls[place] as usize);
-    let of_url = url_lacks(policy, connection, asked, told.number, told.missing);
+    let stop = first_stop(policy, connection, urls);
+    let place = stop.place as usize;
+    let told = Judged {
+        number: stop.refusal,
+        missing: stop.missing,
+    };
     write_why(
         text,
         at,
         connection as u32,
         urls[place] as u32,
-        place as u32 + 1,
+        stop.place + 1,
         urls.len() as u32,
         told,
-        of_url,
-        asked as u32,
+        stop.of_url == 1,
+        stop.url,
     )
 }
 

@@ -7,7 +7,8 @@ use lib.ListN.{replicate, take}
 use Rattle.machine.specs.Machine.{Verdict}
 use Rattle.machine.specs.Cases.{with, url, connection, alwaysHttps, partner, policyWith, policyP}
 use Rattle.journeys.specs.declared.Found.{Found}
-use Rattle.journeys.specs.Journey.{judged, found, failsAt}
+use Rattle.journeys.specs.declared.Stop.{Stop}
+use Rattle.journeys.specs.Journey.{judged, found, failsAt, refusedStop, stopped}
 
 -- ---- how a case is told
 
@@ -36,6 +37,31 @@ pub record Failure : Type 0 where
 abbrev pub fails : ℕ → ℕ → ℕ → ℕ → Failure
 fails c i number missing = record { connection = c; place = i; number = number; missing = missing }
 
+-- a connection, and what is told of where it stops on a journey
+pub record Stopping : Type 0 where
+  pub connection : ℕ
+  pub stop : Stop
+
+-- at a place, by a number, for a missing endpoint, on a URL; by the URL's set, or by the connection's
+abbrev pub byUrl : ℕ → ℕ → ℕ → ℕ → ℕ → Stopping
+byUrl c i number missing u = record {
+  connection = c;
+  stop = record { number = 0; place = i; refusal = number; missing = missing; url = u; «of_url» = 1 };
+}
+
+abbrev pub byConnection : ℕ → ℕ → ℕ → ℕ → ℕ → Stopping
+byConnection c i number missing u = record {
+  connection = c;
+  stop = record { number = 0; place = i; refusal = number; missing = missing; url = u; «of_url» = 0 };
+}
+
+-- nowhere on a journey of so many URLs
+abbrev pub nowhere : ℕ → ℕ → Stopping
+nowhere c n = record { connection = c; stop = record { number = 0; place = n; refusal = 0; missing = 32; url = 0; «of_url» = 0 } }
+
+abbrev pub unasked : ℕ → ℕ → Stopping
+unasked c number = record { connection = c; stop = refusedStop number }
+
 unfoldable pub answers : Found → Case → Bool
 answers got c = eqb (got .number) (c .number) && eqb (got .connection) (c .connection)
 
@@ -52,6 +78,17 @@ allFail p urls (f ∷ fs) =
     eqb (failsAt p urls (f .connection)) (f .place)
     && (judgedSo (judged p urls (f .connection) (f .place)) f
     && allFail p urls fs)
+
+unfoldable pub sameStop : Stop → Stop → Bool
+sameStop a b =
+    eqb (a .number) (b .number)
+    && (eqb (a .place) (b .place)
+    && (eqb (a .refusal) (b .refusal)
+    && (eqb (a .missing) (b .missing) && (eqb (a .url) (b .url) && eqb (a .«of_url») (b .«of_url»)))))
+
+unfoldable pub allStop : List ℕ → List ℕ → List Stopping → Bool
+allStop p urls [] = true
+allStop p urls (s ∷ ss) = sameStop (stopped p urls (s .connection)) (s .stop) && allStop p urls ss
 
 -- ---- the small post
 
@@ -239,6 +276,33 @@ failuresD =
     && (allFail policyD (0 ∷ 10 ∷ []) (fails 2 1 9 16 ∷ fails 4 0 9 16 ∷ [])
     && allFail policyD (0 ∷ 2 ∷ 1 ∷ []) (fails 0 2 8 1 ∷ []))))
 
+-- ---- where each connection stops
+
+abbrev pub stops : Bool
+stops =
+    -- Canteen, bank, canteen: the bank's event endpoint is no reader of connection 0, its message endpoint no writer of 1; the caterer reads on 31
+    -- and may not learn of the canteen; 2 and 3 carry it.
+    allStop policyC payment (byConnection 0 1 8 1 1 ∷ byConnection 1 1 9 17 1 ∷ nowhere 2 3 ∷ nowhere 3 3 ∷ byConnection 4 0 9 16 0 ∷ byUrl 31 0 8 3 0 ∷ [])
+    -- the same number and endpoint: the canteen may not lead to URL 10, and is no writer of connection 4
+    && (allStop policyD (0 ∷ 10 ∷ []) (byUrl 2 1 9 16 10 ∷ byConnection 4 0 9 16 0 ∷ [])
+    -- at the first of two places, and at the last of sixteen
+    && (allStop policyC (0 ∷ 5 ∷ 7 ∷ []) (byUrl 2 1 9 16 5 ∷ [])
+    && (allStop policyC (replicate 15 0 ++ (1 ∷ [])) (byConnection 0 15 8 1 1 ∷ nowhere 2 16 ∷ [])
+    -- the partner is asked for and named, at the first place and at a further one; and where it is taken
+    && (allStop policyC (9 ∷ 1 ∷ []) (byUrl 2 0 8 1 6 ∷ byConnection 0 1 8 1 1 ∷ [])
+    && (allStop policyC (1 ∷ 9 ∷ 1 ∷ []) (byUrl 2 1 8 1 6 ∷ [])
+    && (allStop policyC (3 ∷ 1 ∷ 3 ∷ []) (nowhere 2 3 ∷ byConnection 0 1 8 1 1 ∷ [])
+    -- no connection; no journey, which comes first; no policy, which comes before both
+    && (allStop policyC payment (unasked 32 6 ∷ unasked 33 6 ∷ unasked 255 6 ∷ unasked 4294967295 6 ∷ [])
+    && (allStop policyC [] (unasked 0 17 ∷ unasked 32 17 ∷ [])
+    && (allStop policyC (0 ∷ 64 ∷ []) (unasked 2 17 ∷ unasked 32 17 ∷ [])
+    && (allStop policyC (replicate 17 0) (unasked 0 17 ∷ [])
+    && (allStop (take 608 policyC) payment (unasked 2 2 ∷ unasked 32 2 ∷ [])
+    && allStop (policyWith (url 0 0 0 0 ∷ [])) (64 ∷ []) (unasked 0 2 ∷ unasked 32 2 ∷ []))))))))))))
+
 abbrev pub JourneyCases : Type 0
 JourneyCases =
-    T (allFound policyP casesP && (allFound policyC casesC && (allFound policyD casesD && (casesBad policyC anyJourneys && (failuresC && failuresD)))))
+    T (
+    allFound policyP casesP
+    && (allFound policyC casesC && (allFound policyD casesD && (casesBad policyC anyJourneys && (failuresC && (failuresD && stops)))))
+    )

@@ -1,19 +1,22 @@
--- What the definitions come to: statements about `found` that a reader can hold against what was wanted, and what the monitor itself does with a
--- journey. The proofs are in proofs/Guarantees.antt and proofs/Taking.antt.
+-- What the definitions come to: statements about `found` and `stopped` that a reader can hold against what was wanted, and what the monitor itself
+-- does with a journey. The proofs are in proofs/Guarantees.antt, proofs/Stopping.antt, proofs/Taking.antt and proofs/Naming.antt.
 use Prim.Native.Nat.{ℕ, zero, suc, _<_, _≤_}
-use mathlib.Core.Bool.{not}
+use mathlib.Core.Bool.{not, cond}
 use mathlib.Core.List.{List, [], _∷_}
 use mathlib.Core.Path.{_≡_}
-use lib.Dec.{T}
+use lib.Dec.{T, eqb}
 use lib.ListN.{length, getD}
 use Rattle.prelude.specs.Refusals.{accepted}
+use Rattle.labels.specs.Membership.{endpoints}
+use Rattle.labels.specs.Sets.{holds}
 use Rattle.records.specs.Layout.{load, redirect}
-use Rattle.machine.specs.Policy.{connections, wellFormed}
+use Rattle.machine.specs.Policy.{connections, wellFormed, urlReaders, urlWriters, connectionReaders, connectionWriters, urlMessage, urlEvent}
 use Rattle.machine.specs.Session.{emptyState, documentKind, packed, connectionWord}
 use Rattle.machine.specs.Scripts.{tableBytes}
-use Rattle.machine.specs.Machine.{policyBad, outputRoom, Fed, feed}
+use Rattle.machine.specs.Machine.{policyBad, readersForbid, Verdict, outputRoom, Fed, feed}
 use Rattle.machine.specs.Guarantees.{toldIn}
 use Rattle.journeys.specs.Journey.{urlAt, judged, takes, carries, journeyBad, isJourney, refused, told, found, failsAt}
+use Rattle.journeys.specs.Journey.{ofUrl, stopAt, noStop, connectionUnknown, refusedStop, stopped}
 
 -- ---- which connection is told
 
@@ -49,6 +52,32 @@ RefusedInOrder =
     (p urls : List ℕ)
     → (T (not (wellFormed p)) → found p urls ≡ refused policyBad)
     × (T (wellFormed p) → T (not (isJourney p urls)) → found p urls ≡ refused journeyBad)
+
+-- ---- where a connection stops
+
+-- A connection that carries the journey stops nowhere. Any other stops at the first place that it does not take, which is below the length.
+abbrev pub StopsWhereItFails : Type 0
+StopsWhereItFails =
+    (p urls : List ℕ) (c : ℕ) → c < connections → Asked p urls
+    → (T (carries p urls c) → stopped p urls c ≡ noStop urls)
+    × (T (not (carries p urls c)) → (failsAt p urls c < length urls) × (stopped p urls c ≡ stopAt p urls c (failsAt p urls c)))
+
+-- So the place tells whether it carries the journey, and connection c is told by `found` just where it is the lowest whose place is the length.
+abbrev pub LowestUnstopped : List ℕ → List ℕ → ℕ → Type 0
+LowestUnstopped p urls c = (stopped p urls c .place ≡ length urls) × ((d : ℕ) → d < c → stopped p urls d .place < length urls)
+
+abbrev pub LowestIsUnstopped : Type 0
+LowestIsUnstopped =
+    (p urls : List ℕ) (c : ℕ) → c < connections → Asked p urls
+    → (found p urls ≡ told c → LowestUnstopped p urls c) × (LowestUnstopped p urls c → found p urls ≡ told c)
+
+-- 2 and 17 are told as of a journey, and 6 where neither is and the connection is none of the 32, each with zeros.
+abbrev pub StoppedInOrder : Type 0
+StoppedInOrder =
+    (p urls : List ℕ) (c : ℕ)
+    → (T (not (wellFormed p)) → stopped p urls c ≡ refusedStop policyBad)
+    × (T (wellFormed p) → T (not (isJourney p urls)) → stopped p urls c ≡ refusedStop journeyBad)
+    × (Asked p urls → connections ≤ c → stopped p urls c ≡ refusedStop connectionUnknown)
 
 -- ---- what the monitor does with a journey
 
@@ -87,8 +116,8 @@ FedAsJudged =
     → (i : ℕ) → i < length urls → ((j : ℕ) → j < i → T (takes p urls c j))
     → toldIn (fedAt p scripts urls c buffers i) ≡ judged p urls c i
 
--- So a connection that does not carry the journey fails in the monitor where and as the program `journey` prints it: what is before that place is
--- accepted, and what is there refused, by that number and for that endpoint.
+-- So a connection that does not carry the journey fails in the monitor where and as `stopped` tells it, and the program `journey` prints it: what is
+-- before that place is accepted, and what is there refused, by that number and for that endpoint.
 abbrev pub RefusedAsTold : Type 0
 RefusedAsTold =
     (p scripts urls : List ℕ) (c : ℕ) (buffers : ℕ → List ℕ)
@@ -99,3 +128,32 @@ RefusedAsTold =
     × ((j : ℕ) → j < i → fedAt p scripts urls c buffers j .number ≡ accepted)
     × (fedAt p scripts urls c buffers i .number ≡ accepted → ⊥)
     × (toldIn (fedAt p scripts urls c buffers i) ≡ judged p urls c i)
+
+-- ---- the set that lacks the endpoint
+
+-- the readers by 8 and the writers by 9, of a URL and of a connection; and the endpoint of the URL for which the connection's are asked
+abbrev pub urlSet : List ℕ → ℕ → Verdict → ℕ
+urlSet p u v = cond (eqb (v .number) readersForbid) (urlReaders p u) (urlWriters p u)
+
+abbrev pub connectionSet : List ℕ → ℕ → Verdict → ℕ
+connectionSet p c v = cond (eqb (v .number) readersForbid) (connectionReaders p c) (connectionWriters p c)
+
+abbrev pub askedFor : List ℕ → ℕ → Verdict → ℕ
+askedFor p u v = cond (eqb (v .number) readersForbid) (urlEvent p u) (urlMessage p u)
+
+-- the set that is named
+abbrev pub namedSet : List ℕ → ℕ → ℕ → Verdict → ℕ
+namedSet p c u v = cond (ofUrl p c u v) (urlSet p u v) (connectionSet p c v)
+
+-- Of each connection that does not carry a journey, its stop, and its line in what `journey` prints, names an endpoint, 0 to 31, and a set that lacks
+-- it: of the connection, or of the URL that is asked for at the first place that it does not take. It is the URL's set where the connection's has the
+-- endpoint, and the connection's where the endpoint is the URL's own event or message endpoint.
+abbrev pub NamedSetLacksIt : Type 0
+NamedSetLacksIt =
+    (p urls : List ℕ) (c : ℕ) → Asked p urls → c < connections → T (not (carries p urls c))
+    → let i = failsAt p urls c in
+    let v = judged p urls c i in
+    let u = urlAt p urls i in
+    (v .missing < endpoints)
+    × T (not (holds (namedSet p c u v) (v .missing)))
+    × T (cond (ofUrl p c u v) (holds (connectionSet p c v) (v .missing)) (eqb (v .missing) (askedFor p u v)))

@@ -2,15 +2,17 @@
 -- load and each further one by a redirect from the one before. Which connection carries it is asked by the monitor's own questions.
 use Prim.Native.Nat.{ℕ, zero, suc}
 use mathlib.Core.Bool.{Bool, not, _&&_, cond}
-use mathlib.Core.List.{List, [], _∷_}
-use lib.Dec.{leb, eqb}
+use mathlib.Core.List.{List, [], _∷_, _++_}
+use lib.Dec.{leb, eqb, ltb}
 use lib.ListN.{length, getD}
+use Rattle.prelude.specs.Choice.{branch}
 use Rattle.prelude.specs.Lists.{isEmpty, lowest}
 use Rattle.prelude.specs.Refusals.{accepted, Refusal, refuse, firstOf}
-use Rattle.labels.specs.Membership.{allBelow}
-use Rattle.machine.specs.Policy.{connections, wellFormed, isUrl, upgraded}
-use Rattle.machine.specs.Machine.{Redirect, Event, Load, Arrival, policyBad, Verdict, plain, labelRefusals}
+use Rattle.labels.specs.Membership.{noneMissing, allBelow}
+use Rattle.machine.specs.Policy.{connections, wellFormed, isUrl, upgraded, fitMissingReader, fitMissingWriter}
+use Rattle.machine.specs.Machine.{Redirect, Event, Load, Arrival, policyBad, readersForbid, Verdict, plain, labelRefusals}
 use Rattle.journeys.specs.declared.Found.{Found}
+use Rattle.journeys.specs.declared.Stop.{Stop}
 
 -- ---- what the monitor says
 
@@ -73,3 +75,38 @@ found p urls = let n = firstOf (journeyRefusals p urls) accepted in cond (eqb n 
 -- the first place whose URL it does not take; the length where it takes each
 unfoldable pub failsAt : List ℕ → List ℕ → ℕ → ℕ
 failsAt p urls c = lowest (length urls) (λ i. not (takes p urls c i))
+
+-- Whether the endpoint is missing in a set of the URL, and not of the connection. By 8 it is where it is what is missing for the connection to fit the
+-- URL; else it is the URL's event endpoint, which the connection's readers lack. By 9 it is where it is not what is missing for the connection to
+-- fit the URL, which is the URL's message endpoint.
+unfoldable pub ofUrl : List ℕ → ℕ → ℕ → Verdict → Bool
+ofUrl p c u v =
+    cond (eqb (v .number) readersForbid) (eqb (v .missing) (fitMissingReader p c u)) (not (eqb (v .missing) (fitMissingWriter p c u)))
+
+-- a stop at a place: what labels say there, the URL that is asked for, and 1 where the set that lacks the endpoint is the URL's
+abbrev pub stopAt : List ℕ → List ℕ → ℕ → ℕ → Stop
+stopAt p urls c i =
+    let v = judged p urls c i in
+    let u = urlAt p urls i in
+    record { number = accepted; place = i; refusal = v .number; missing = v .missing; url = u; «of_url» = branch (ofUrl p c u v) 1 0 }
+
+-- none: the length, and nothing that is missing
+abbrev pub noStop : List ℕ → Stop
+noStop urls = record { number = accepted; place = length urls; refusal = accepted; missing = noneMissing; url = 0; «of_url» = 0 }
+
+-- a connection that does not carry the journey stops at the first place whose URL it does not take
+unfoldable pub stop : List ℕ → List ℕ → ℕ → Stop
+stop p urls c = cond (carries p urls c) (noStop urls) (stopAt p urls c (failsAt p urls c))
+
+abbrev pub connectionUnknown : ℕ
+connectionUnknown = 6
+
+-- of the policy and the journey as before, then of the connection
+abbrev pub stopRefusals : List ℕ → List ℕ → ℕ → List (Refusal ℕ)
+stopRefusals p urls c = journeyRefusals p urls ++ (refuse connectionUnknown (not (ltb c connections)) ∷ [])
+
+abbrev pub refusedStop : ℕ → Stop
+refusedStop n = record { number = n; place = 0; refusal = 0; missing = 0; url = 0; «of_url» = 0 }
+
+unfoldable pub stopped : List ℕ → List ℕ → ℕ → Stop
+stopped p urls c = let n = firstOf (stopRefusals p urls c) accepted in cond (eqb n accepted) (stop p urls c) (refusedStop n)

@@ -13,6 +13,8 @@ use crate::seen::Event;
 
 /// The journey is empty, longer than 16, or names a URL without a row.
 pub const JOURNEY_BAD: u32 = 17;
+/// The connection that is asked about is none of the 32.
+pub const CONNECTION_UNKNOWN: u32 = 6;
 /// What is told in place of a connection where none carries the journey.
 pub const NO_CONNECTION: u32 = 32;
 /// The most URLs of a journey.
@@ -94,6 +96,22 @@ pub fn journey_noting(policy: &[u32], urls: &[u8], seen: &mut JourneySeen) -> Fo
 pub fn first_failure(policy: &[u32], connection: u32, urls: &[u8]) -> Option<Failure> {
     let journey = Journey::read(policy, urls).expect("the journey is not refused");
     journey.first_failure(connection as usize)
+}
+
+/// Where and why each of these connections does not carry a journey, none where
+/// it carries it; or the first number that applies.
+pub fn journey_stops(
+    policy: &[u32],
+    urls: &[u8],
+    connections: &[u32],
+) -> Vec<Result<Option<Failure>, u32>> {
+    let journey = Journey::read(policy, urls).map_err(|refusal| refusal.number);
+    let stop = |&connection: &u32| match (&journey, connection as usize) {
+        (Err(number), _) => Err(*number),
+        (Ok(journey), connection @ 0..CONNECTIONS) => Ok(journey.first_failure(connection)),
+        (Ok(_), _) => Err(CONNECTION_UNKNOWN),
+    };
+    connections.iter().map(stop).collect()
 }
 
 impl Journey {

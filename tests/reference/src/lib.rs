@@ -69,8 +69,8 @@ pub use import_fast::import_fast;
 pub use import_seen::{ImportEvent, ImportSeen};
 pub use import_text::{host_of, import_text, names_of};
 pub use journey::{
-    first_failure, journey_find, journey_noting, Failure, Found, JOURNEY_BAD, JOURNEY_URLS,
-    NO_CONNECTION,
+    first_failure, journey_find, journey_noting, journey_stops, Failure, Found, CONNECTION_UNKNOWN,
+    JOURNEY_BAD, JOURNEY_URLS, NO_CONNECTION,
 };
 pub use journey_fast::journey_find_fast;
 pub use journey_seen::{JourneyEvent, JourneySeen};

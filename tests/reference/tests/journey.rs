@@ -7,7 +7,11 @@ use cases::policy::document;
 use planning::payment::{self, ACCOUNT, BANK, CHECKOUT, FRONT, SEARCH, TYPED, TYPED_FRONT};
 use planning::{bare, find, refused, set_connection, set_row, told, ALL};
 use reference::layout::{POLICY_HTTPS_HOSTS, POLICY_PARTNERS, URLS};
-use reference::{first_failure, Failure, JOURNEY_BAD, JOURNEY_URLS, NO_CONNECTION};
+use reference::numbers::POLICY_BAD;
+use reference::{
+    first_failure, journey_stops, Failure, CONNECTION_UNKNOWN, JOURNEY_BAD, JOURNEY_URLS,
+    NO_CONNECTION,
+};
 
 /// Of a place from 0 on, the number, and the endpoint that the URL lacks.
 fn url_lacks(place: usize, number: u32, missing: u32) -> Option<Failure> {
@@ -44,6 +48,7 @@ fn journey(policy: &[u32], urls: &[u8], connection: u32, failures: &[(u32, Optio
 #[test]
 fn numbers_of_the_document() {
     assert_eq!(JOURNEY_BAD, 17);
+    assert_eq!(CONNECTION_UNKNOWN, 6);
     assert_eq!(NO_CONNECTION, 32);
     assert_eq!(JOURNEY_URLS, 16);
 }
@@ -349,4 +354,19 @@ fn each_url() {
             }
         }
     }
+}
+
+/// The policy is asked about first, then the journey, then the connection.
+#[test]
+fn where_connections_stop() {
+    let policy = document();
+    let connections = [0, 31, 32, u32::MAX];
+    let stops = |policy: &[u32], urls: &[u8]| journey_stops(policy, urls, &connections);
+    let unknown = Err(CONNECTION_UNKNOWN);
+    for urls in [&[0, 3][..], &[3, 0], &[1]] {
+        let [first, last] = [0, 31].map(|connection| Ok(first_failure(&policy, connection, urls)));
+        assert_eq!(stops(&policy, urls), [first, last, unknown, unknown]);
+    }
+    assert_eq!(stops(&policy, &[0, 64]), [Err(JOURNEY_BAD); 4]);
+    assert_eq!(stops(&policy[1..], &[0, 64]), [Err(POLICY_BAD); 4]);
 }

@@ -1,4 +1,4 @@
-//! Finds a connection by the library and twice by the reference, and compares.
+//! Finds a connection by the library and twice by the reference, and where each connection stops by both, and compares.
 
 use std::panic::{catch_unwind, AssertUnwindSafe};
 
@@ -11,6 +11,8 @@ use reference::{
     journey_find_fast, journey_noting, Found, JourneyEvent, JourneySeen, NO_CONNECTION,
 };
 use zolherima::journeys;
+
+use crate::stops::{self, Stopped, Stopper};
 
 /// Policy and journey, as they are lent.
 #[derive(Default)]
@@ -38,6 +40,7 @@ pub fn library(lent: &mut Lent) -> Found {
 
 pub struct Checker {
     finder: Finder,
+    stopper: Stopper,
     lent: Lent,
     own: Lent,
     seen: JourneySeen,
@@ -53,9 +56,10 @@ pub struct Compared {
 
 impl Checker {
     /// Checks the proved library, or what a test puts in its place.
-    pub fn new(finder: Finder) -> Checker {
+    pub fn new(finder: Finder, stopper: Stopper) -> Checker {
         Checker {
             finder,
+            stopper,
             lent: Lent::default(),
             own: Lent::default(),
             seen: JourneySeen::new(),
@@ -65,20 +69,34 @@ impl Checker {
     pub fn check(&mut self, given: &Given, random: &Random) -> Compared {
         self.lay(given, random);
         let expected = journey_noting(&given.policy, &given.urls, &mut self.seen);
-        let Checker { finder, own, .. } = self;
         // One that panics has failed too, and its journey is wanted.
-        let found = catch_unwind(AssertUnwindSafe(|| finder(own))).ok();
-        let verdict = match &found {
-            Some(found) => self
+        let told = catch_unwind(AssertUnwindSafe(|| self.ask())).ok();
+        let verdict = match &told {
+            Some((found, stops)) => self
                 .compare(given, &expected, found)
+                .and_then(|()| compare_stops(given, stops))
                 .map_err(|difference| difference.to_string()),
             None => Err("library: panicked".to_string()),
         };
         Compared {
             expected,
-            found,
+            found: told.map(|(found, _)| found),
             verdict,
         }
+    }
+
+    /// For a connection, and where each stops.
+    fn ask(&mut self) -> (Found, Vec<Stopped>) {
+        let Checker {
+            finder,
+            stopper,
+            own,
+            ..
+        } = self;
+        let found = finder(own);
+        let connections = stops::connections().into_iter();
+        let stops = connections.map(|connection| stopper(own, connection));
+        (found, stops.collect())
     }
 
     /// In memory of just their lengths, where valgrind sees a read past an end, or between guards.
@@ -109,6 +127,14 @@ impl Checker {
         let counted = |event: JourneyEvent| (event.name(), self.seen.count(event));
         JourneyEvent::ALL.into_iter().map(counted).collect()
     }
+}
+
+fn compare_stops(given: &Given, stops: &[Stopped]) -> Result<(), Difference> {
+    Subject("library").gave(
+        "stops",
+        stops::expected(given).as_flattened(),
+        stops.as_flattened(),
+    )
 }
 
 fn same(subject: Subject, expected: &Found, found: &Found) -> Result<(), Difference> {

@@ -13,14 +13,16 @@ use reference::{Found, JOURNEY_BAD, JOURNEY_URLS, NO_CONNECTION};
 
 use crate::checker::{self, Checker, Finder, Lent};
 use crate::input::Kind;
+use crate::stops;
 use crate::Journeys;
 
 /// The first difference that a few cases find.
 pub fn first_difference(finder: Finder, program: Option<Program>) -> Option<String> {
-    let mut journeys = Journeys {
-        checker: Checker::new(finder),
-        program,
-    };
+    first_difference_of(Checker::new(finder, Box::new(stops::library)), program)
+}
+
+pub fn first_difference_of(checker: Checker, program: Option<Program>) -> Option<String> {
+    let mut journeys = Journeys { checker, program };
     suite::first_difference(&mut journeys, 8 * Kind::CYCLE).expect("the program can be run")
 }
 

@@ -1,4 +1,5 @@
-//! Finds connections for random journeys by the library and by the program journey, and compares all that they say with what the reference says.
+//! Finds connections for random journeys by the library and by the program journey, and where each connection stops, and compares all that they say
+//! with what the reference says.
 
 mod checker;
 #[cfg(test)]
@@ -7,6 +8,9 @@ mod input;
 mod run;
 #[cfg(test)]
 mod run_faults;
+#[cfg(test)]
+mod stop_faults;
+mod stops;
 
 use std::io;
 use std::process::ExitCode;
@@ -118,7 +122,7 @@ fn text(found: &Found) -> String {
 
 fn main() -> ExitCode {
     suite::main(|path| Journeys {
-        checker: Checker::new(Box::new(checker::library)),
+        checker: Checker::new(Box::new(checker::library), Box::new(stops::library)),
         program: program::unless_alone(path, Journeys::NAME),
     })
 }

@@ -1,9 +1,9 @@
--- `report::url_lacks` meets its contract: what is missing for the connection to fit the URL tells whose set it is.
+-- `stops::url_lacks` meets its contract: what is missing for the connection to fit the URL tells whose set it is.
 use Rattle.prelude.proofs.Kit.{eq-eqb, ne-eqb, needs}
 use Rattle.machine.specs.Machine.{readersForbid}
-use Rattle.journey.specs.Report.{ofUrl}
-use Rattle.journey.proofs.report.url_lacks.Statement.{statement}
-use Rattle.journey.proofs.report.url_lacks.Tie as tie
+use Rattle.journeys.specs.Journey.{ofUrl}
+use Rattle.journeys.proofs.stops.url_lacks.Statement.{statement}
+use Rattle.journeys.proofs.stops.url_lacks.Tie as tie
 
 returns : tie.Need-returns
 unfolding ofUrl

@@ -1,4 +1,4 @@
--- The set that a line names lacks the endpoint that it names: condition by condition.
+-- The set that a stop names lacks the endpoint that it names: condition by condition.
 use Rattle.prelude.proofs.Kit.{ℕ, _<_, arith, true, Bool, false, not, cond, List, _≡_, sym, _∙_, refl, ap, subst, T, T-not, eqb, eq-eqb, ne-eqb, ℕ-discrete}
 use Rattle.prelude.specs.Choice.{branch}
 use Rattle.prelude.specs.Refusals.{accepted}
@@ -9,12 +9,11 @@ use Rattle.machine.specs.Policy.{isEntry, urlReaders, urlWriters, connectionRea
 use Rattle.machine.specs.Policy.{fitMissingReader, fitMissingWriter, reachMissingWriter, firstMissing, redirectMissingReader, redirectMissingWriter}
 use Rattle.machine.specs.Machine.{Verdict}
 use Rattle.policy.specs.Given.{Url}
-use Rattle.journeys.specs.Journey.{urlAt, judged, takes, failsAt}
+use Rattle.journeys.specs.Journey.{urlAt, judged, takes, failsAt, ofUrl}
 use Rattle.journeys.specs.Legs.{firstForbidden}
 use Rattle.journeys.proofs.Judging.{readers-forbid, writers-forbid, nothing-forbids, judged-load, judged-redirect, asked-url}
 use Rattle.journeys.proofs.Guarantees.{asked-given, fails-where, not-taken-where}
-use Rattle.journey.specs.Report.{ofUrl}
-use Rattle.journey.specs.Guarantees.{connectionSet, askedFor, namedSet, NamedSetLacksIt}
+use Rattle.journeys.specs.Guarantees.{connectionSet, askedFor, namedSet, NamedSetLacksIt}
 
 -- an endpoint that a set lacks: the URL's, where the connection's has it, or the connection's, where it is the one that is asked for
 abbrev Lacks : ℕ → ℕ → ℕ → Bool → ℕ → Type 0
