@@ -2,10 +2,10 @@
 
 use core::fmt;
 
-/// Endpoints are below this.
-const ENDPOINTS: u32 = 32;
 /// Hosts are below this.
-const HOSTS: u32 = 16;
+const HOSTS: u32 = crate::HOSTS as u32;
+/// Endpoints are below this: each host has two.
+const ENDPOINTS: u32 = 2 * HOSTS;
 
 /// One endpoint: http or https at a host. In a policy it is an address, and bit [`number`](Endpoint::number) of a set stands for it.
 ///
@@ -20,8 +20,9 @@ const HOSTS: u32 = 16;
 /// // The set that has it and no other endpoint.
 /// assert_eq!(1 << endpoint.number(), 0x0002_0000);
 ///
-/// assert_eq!(Endpoint::new(1).unwrap().to_string(), "http at host 1");
-/// assert_eq!(Endpoint::new(32), None);
+/// assert_eq!(Endpoint::https(1), Some(endpoint));
+/// assert_eq!(endpoint.event().to_string(), "http at host 1");
+/// assert_eq!((Endpoint::new(32), Endpoint::http(16)), (None, None));
 /// ```
 #[derive(Clone, Copy, Debug, PartialEq, Eq, PartialOrd, Ord, Hash)]
 pub struct Endpoint {
@@ -44,6 +45,31 @@ impl Endpoint {
             Some(Endpoint { number })
         } else {
             None
+        }
+    }
+
+    /// http at the host, 0 to 15.
+    pub const fn http(host: u32) -> Option<Endpoint> {
+        if host < HOSTS {
+            Endpoint::new(host)
+        } else {
+            None
+        }
+    }
+
+    /// https at the host, 0 to 15.
+    pub const fn https(host: u32) -> Option<Endpoint> {
+        if host < HOSTS {
+            Endpoint::new(HOSTS + host)
+        } else {
+            None
+        }
+    }
+
+    /// The event endpoint of a URL at this address: http at its host, which is whoever sees that a message goes there.
+    pub const fn event(self) -> Endpoint {
+        Endpoint {
+            number: self.host(),
         }
     }
 

@@ -2,12 +2,104 @@
 //!
 //! The monitor stands between a web page and the network. It is fed one record at a time, keeps cookies and pending connections in a
 //! state that the caller lends, runs small scripts, and writes the requests that may go out. It has no memory of its own, allocates
-//! nothing, and answers every content and every length: [`feed`] is the whole of it.
+//! nothing, and answers every content and every length. What is proved is in `libmonitor.a`, which is looked for in the folder that the environment
+//! variable `MONITOR_LIB_DIR` names as this crate is built, or else where `rt staticlib` leaves it.
 //!
-//! A session starts from a state of zeros, and each record is fed with the state as the last call left it:
+//! A [`PolicyBuilder`] makes a policy, and a [`Session`] feeds records under it:
 //!
 //! ```
-//! use zolherima::{feed, Accepted, Refusal, NO_PARTNER, NO_URL, OUT_BYTES, POLICY_WORDS, SCRIPT_BYTES, STATE_WORDS};
+//! use zolherima::{Connection, Cookies, Endpoint, Endpoints, Labels, PolicyBuilder, Record, Refusal, RequestKind, Scripts, Session, Url};
+//!
+//! # fn main() -> Result<(), Box<dyn std::error::Error>> {
+//! // The canteen is https at host 0. It may learn of its page, and so may who sees on the wire that something goes to host 0.
+//! let canteen = Endpoint::https(0).ok_or("no such host")?;
+//! let readers = Endpoints::from_iter([canteen, canteen.event()]);
+//! // It alone may have shaped its page, its cookie and what comes on its connection.
+//! let writers = Endpoints::only(canteen);
+//! let policy = PolicyBuilder::new()
+//!     .url(0, Url { address: canteen, is_entry: false, readers, writers })
+//!     .cookie(0, 0, Labels { readers: canteen.into(), writers })
+//!     .connection(0, Connection { readers, script_readers: readers, writers })
+//!     .build()?;
+//! let scripts = Scripts::new();
+//! let mut session = Session::new(&policy, &scripts);
+//!
+//! // A page asks for URL 0 on connection 0: a request goes out.
+//! let sent = session.feed(&Record::load(0, 0))?;
+//! for request in sent.requests {
+//!     let request = request?;
+//!     assert_eq!((request.kind, request.url, request.connection), (RequestKind::Document, 0, 0));
+//! }
+//!
+//! // The response brings 7 for key 0, and runs script 0, which ends at its first step. The next request carries the cookie.
+//! let cookies = Cookies::NONE.with(0, 7).ok_or("no such key")?;
+//! let sent = session.feed(&Record::document_response(0, 0, &cookies, 0))?;
+//! assert_eq!((sent.steps, sent.requests.count()), (1, 0));
+//! assert_eq!(session.state().cookie(0, 0), Some(7));
+//! let mut sent = session.feed(&Record::load(0, 0))?;
+//! assert_eq!(sent.requests.next().ok_or("no request")??.cookies, cookies);
+//!
+//! // URL 1 is not in the policy: the record is refused, and nothing changes.
+//! let unknown = session.feed(&Record::load(1, 0));
+//! assert_eq!(unknown, Err(Refusal::NameUnknown));
+//! assert_eq!(unknown.unwrap_err().number(), 6);
+//! # Ok(())
+//! # }
+//! ```
+//!
+//! # A policy that is not well formed
+//!
+//! It is not built: [`PolicyBuilder::build`] and [`Policy::from_words`] tell the first [`Fault`], and [`faults`] tells all of them. So a [`Policy`]
+//! never gets [`Refusal::PolicyBad`].
+//!
+//! # What a policy lacks
+//!
+//! Where readers or writers forbid a record, the refusal tells which endpoint is missing. An endpoint is http or https at a host. If the record
+//! should be accepted, the endpoint is to be added to a set of the policy, or taken from another: which sets these are is listed, condition by
+//! condition, at [`Refusal::ReadersForbid`] and [`Refusal::WritersForbid`]. The first condition that fails is told of, and of several endpoints that
+//! are missing in it the lowest: once that is put right, another may be told. URL and target are those that are asked for, which is the partner
+//! where the record names a URL that has one.
+//!
+//! ```
+//! # use zolherima::{Connection, Endpoint, Endpoints, Fault, PolicyBuilder, Record, Scripts, Session, Url};
+//! use zolherima::{Refusal, Scheme};
+//!
+//! // URL 0 is https at host 1; who sees host 1 on the wire may learn of it. Connection 0 has nobody as a writer.
+//! let address = Endpoint::https(1).unwrap();
+//! let readers = Endpoints::only(address.event());
+//! let mut connection = Connection { readers, script_readers: readers, writers: Endpoints::NOBODY };
+//! let mut builder = PolicyBuilder::new();
+//! builder.url(0, Url { address, is_entry: false, readers, writers: Endpoints::NOBODY });
+//! let (policy, scripts) = (builder.connection(0, connection).build()?, Scripts::new());
+//!
+//! let mut session = Session::new(&policy, &scripts);
+//! let load = session.feed(&Record::load(0, 0));
+//! let Err(refusal @ Refusal::WritersForbid { missing }) = load else { panic!("{load:?}") };
+//! assert_eq!((missing.number(), missing.scheme(), missing.host()), (17, Scheme::Https, 1));
+//! assert!(refusal.to_string().ends_with(": https at host 1 is missing"));
+//!
+//! // The connection's writers lack the URL's own address: it is added to them, and a session begins under the new policy.
+//! connection.writers = connection.writers | missing.into();
+//! let policy = builder.connection(0, connection).build()?;
+//! assert!(Session::new(&policy, &scripts).feed(&Record::load(0, 0)).is_ok());
+//! # Ok::<(), Fault>(())
+//! ```
+//!
+//! # Secrecy and integrity
+//!
+//! What the monitor promises of secrecy and integrity it promises for a session as a whole: from a state of zeros on, the same policy and
+//! the same script table throughout, and a state that nobody else writes between calls. Secrecy: what has none of a set of endpoints
+//! among its readers does not show to that set, in requests and state. Integrity: what has some of a set among its writers does not reach
+//! the requests to URLs that have none of it among theirs and are no entries; it neither causes, changes nor prevents one. What [`feed`]
+//! answers is for the caller alone: it may depend on what others must not learn.
+//!
+//! # Words and bytes
+//!
+//! All of this is made of [`feed`], which is lent buffers of words and bytes. A session starts from a state of zeros, and each record is fed with the
+//! state as the last call left it:
+//!
+//! ```
+//! use zolherima::{feed, Accepted, NO_PARTNER, NO_URL, OUT_BYTES, POLICY_WORDS, SCRIPT_BYTES, STATE_WORDS};
 //!
 //! // One URL, https at host 0 (endpoint 16). Who sees host 0 on the wire (endpoint 0) may learn of it; it may be shaped by itself.
 //! let mut policy = [0; POLICY_WORDS];
@@ -23,60 +115,12 @@
 //!
 //! let mut state = [0; STATE_WORDS];
 //! let mut out = [0; OUT_BYTES];
-//!
-//! // A page asks for URL 0 on connection 0: a request goes out.
 //! let load = feed(&policy, &scripts, &mut state, &[0x03, 0, 0], &mut out);
 //! assert_eq!(load, Ok(Accepted { bytes: 3, steps: 0 }));
 //! assert_eq!(out[..3], [0x03, 0, 0]);
-//!
-//! // URL 1 is not in the policy: the record is refused, and nothing changes.
-//! let unknown = feed(&policy, &scripts, &mut state, &[0x03, 1, 0], &mut out);
-//! assert_eq!(unknown, Err(Refusal::NameUnknown));
-//! assert_eq!(unknown.unwrap_err().number(), 6);
 //! ```
 //!
-//! # What a policy lacks
-//!
-//! Where readers or writers forbid a record, the refusal tells which endpoint is missing. An endpoint is http or https at a host: endpoint 17 is
-//! https at host 1. If the record should be accepted, the endpoint is to be added to a set of the policy, or taken from another: which sets these
-//! are is listed, condition by condition, at [`Refusal::ReadersForbid`] and [`Refusal::WritersForbid`]. The first condition that fails is told of,
-//! and of several endpoints that are missing in it the lowest: once that is put right, another may be told. URL and target are those that are asked
-//! for, which is the partner where the record names a URL that has one.
-//!
-//! ```
-//! # use zolherima::{feed, NO_PARTNER, NO_URL, OUT_BYTES, POLICY_WORDS, SCRIPT_BYTES, STATE_WORDS};
-//! use zolherima::{Refusal, Scheme};
-//! # let mut policy = [0; POLICY_WORDS];
-//! # for url in policy[..192].chunks_exact_mut(3) {
-//! #     url.copy_from_slice(&NO_URL);
-//! # }
-//! # policy[545..].fill(NO_PARTNER);
-//! # let scripts = [0; SCRIPT_BYTES];
-//! # let (mut state, mut out) = ([0; STATE_WORDS], [0; OUT_BYTES]);
-//!
-//! // URL 0 is https at host 1; who sees host 1 on the wire may learn of it. Connection 0 has nobody as a writer.
-//! policy[..3].copy_from_slice(&[17, 0x0000_0002, 0]);
-//! policy[448..451].copy_from_slice(&[0x0000_0002, 0x0000_0002, 0]);
-//!
-//! let load = feed(&policy, &scripts, &mut state, &[0x03, 0, 0], &mut out);
-//! let Err(refusal @ Refusal::WritersForbid { missing }) = load else { panic!("{load:?}") };
-//! assert_eq!((missing.number(), missing.scheme(), missing.host()), (17, Scheme::Https, 1));
-//! assert!(refusal.to_string().ends_with(": https at host 1 is missing"));
-//!
-//! // The connection's writers lack the URL's own address: it is added to them.
-//! policy[450] |= 1 << missing.number();
-//! assert!(feed(&policy, &scripts, &mut state, &[0x03, 0, 0], &mut out).is_ok());
-//! ```
-//!
-//! # Secrecy and integrity
-//!
-//! What the monitor promises of secrecy and integrity it promises for a session as a whole: from a state of zeros on, the same policy and
-//! the same script table throughout, and a state that nobody else writes between calls. Secrecy: what has none of a set of endpoints
-//! among its readers does not show to that set, in requests and state. Integrity: what has some of a set among its writers does not reach
-//! the requests to URLs that have none of it among theirs and are no entries; it neither causes, changes nor prevents one. What [`feed`]
-//! answers is for the caller alone: it may depend on what others must not learn.
-//!
-//! # Buffers
+//! The buffers:
 //!
 //! | Buffer | Length | What |
 //! |---|---|---|
@@ -102,7 +146,7 @@
 //! # Journeys
 //!
 //! With the feature `journeys`, the module `journeys` finds the connection of a policy on which URLs can be visited one after another: the first
-//! loaded, each further one reached by a redirect. It needs `libjourneys.a` beside `libmonitor.a`.
+//! loaded, each further one reached by a redirect; and tells where and why another does not do. It needs `libjourneys.a` beside `libmonitor.a`.
 //!
 //! # The reach table
 //!
@@ -114,17 +158,45 @@
 
 #[cfg(feature = "cookie")]
 pub mod cookie;
+mod cookies;
 mod endpoint;
+mod endpoints;
+mod fault;
+mod fields;
 #[cfg(feature = "journeys")]
 pub mod journeys;
+mod layout;
+mod policy;
+mod policy_builder;
 #[cfg(feature = "reach_table")]
 pub mod reach_table;
+mod record;
+mod request;
+mod said;
+mod script;
+mod session;
+mod state;
+mod step;
 #[cfg(feature = "usage")]
 pub mod usage;
+mod well_formed;
 
 use core::fmt;
 
+pub use cookies::Cookies;
 pub use endpoint::{Endpoint, Scheme};
+pub use endpoints::Endpoints;
+pub use fault::{Fault, Named};
+pub use policy::{Connection, Labels, Policy, Url};
+pub use policy_builder::PolicyBuilder;
+pub use record::Record;
+pub use request::{requests, Request, RequestBad, RequestFault, RequestKind, Requests};
+pub use said::{RecordKind, Said};
+pub use script::Scripts;
+pub use session::{Sent, Session};
+pub use state::{Pending, PendingKind, State};
+pub use step::Step;
+pub use well_formed::faults;
 
 /// Words of a policy.
 pub const POLICY_WORDS: usize = 609;
@@ -138,6 +210,22 @@ pub const OUT_BYTES: usize = 1184;
 pub const LONGEST_RECORD: usize = 40;
 /// The longest request.
 pub const LONGEST_REQUEST: usize = 37;
+/// Hosts are below this.
+pub const HOSTS: usize = 16;
+/// The keys of a host's cookies are below this.
+pub const KEYS: usize = 8;
+/// URLs are below this.
+pub const URLS: usize = 64;
+/// Connections are below this.
+pub const CONNECTIONS: usize = 32;
+/// Scripts are below this.
+pub const SCRIPTS: usize = 16;
+/// The places of a script's steps are below this.
+pub const STEPS: usize = 32;
+/// Bytes of a step.
+pub const STEP_BYTES: usize = 4;
+/// The registers of a script are below this.
+pub const REGISTERS: usize = 4;
 /// The three words of a policy's URL that is not in use.
 pub const NO_URL: [u32; 3] = [255, 0, 0];
 /// The partner, in a policy, of a URL that has none, and of a row that is not in use.
@@ -158,7 +246,7 @@ pub const NO_PARTNER: u32 = 255;
 /// ```
 pub const ENTRY: u32 = 32;
 
-/// What an accepted record did.
+/// What a record did that [`feed`] accepted.
 #[derive(Clone, Copy, Debug, PartialEq, Eq, Hash)]
 pub struct Accepted {
     /// How many bytes of the output were written, from its start: whole requests.

@@ -4,27 +4,30 @@
 //! [`count`] gives the counts, and [`fits`] tells of one connection and one URL whether it is counted:
 //!
 //! ```
-//! use zolherima::reach_table::{count, fits, PolicyBad};
-//! use zolherima::{NO_PARTNER, NO_URL, POLICY_WORDS};
+//! use zolherima::reach_table::{count, fits};
+//! use zolherima::{Connection, Endpoint, Endpoints, PolicyBuilder, Url};
 //!
-//! // URL 0 is a canteen and URL 1 a bank, by https at host 0 and host 1 (endpoints 16 and 17). Who sees either host on the wire may learn of both.
-//! let mut policy = [0; POLICY_WORDS];
-//! for url in policy[..192].chunks_exact_mut(3) {
-//!     url.copy_from_slice(&NO_URL);
-//! }
-//! policy[..3].copy_from_slice(&[16, 0x0003_0003, 0x0003_0000]);
-//! policy[3..6].copy_from_slice(&[17, 0x0003_0003, 0x0003_0000]);
-//! policy[545..].fill(NO_PARTNER);
+//! # fn main() -> Result<(), Box<dyn std::error::Error>> {
+//! // URL 0 is a canteen and URL 1 a bank, by https at host 0 and host 1. Who sees either host on the wire may learn of both.
+//! let canteen = Endpoint::https(0).ok_or("no such host")?;
+//! let bank = Endpoint::https(1).ok_or("no such host")?;
+//! let wires = Endpoints::from_iter([canteen.event(), bank.event()]);
+//! let both = Endpoints::from_iter([canteen, bank]);
+//! let url = |address| Url { address, is_entry: false, readers: wires | both, writers: both };
 //! // Connection 4 is the canteen's alone. Connection 7 may be seen at both hosts, and both write on it.
-//! policy[448 + 3 * 4..][..3].copy_from_slice(&[0x0000_0001, 0x0000_0001, 0x0001_0000]);
-//! policy[448 + 3 * 7..][..3].copy_from_slice(&[0x0000_0003, 0x0000_0003, 0x0003_0000]);
+//! let connection = |readers, writers| Connection { readers, script_readers: readers, writers };
+//! let policy = PolicyBuilder::new()
+//!     .url(0, url(canteen))
+//!     .url(1, url(bank))
+//!     .connection(4, connection(canteen.event().into(), canteen.into()))
+//!     .connection(7, connection(wires, both))
+//!     .build()?;
 //!
-//! let table = count(&policy)?;
+//! let table = count(policy.words())?;
 //! assert_eq!((table.urls[4], table.urls[7], table.all), (1, 2, 3));
-//! assert!(fits(&policy, 4, 0) && !fits(&policy, 4, 1));
-//!
-//! assert_eq!(count(&policy[1..]), Err(PolicyBad));
-//! # Ok::<(), PolicyBad>(())
+//! assert!(fits(policy.words(), 4, 0) && !fits(policy.words(), 4, 1));
+//! # Ok(())
+//! # }
 //! ```
 //!
 //! # What is counted
@@ -45,6 +48,8 @@ use core::fmt;
 pub const CONNECTIONS: usize = 32;
 /// URLs are below this.
 pub const URLS: usize = 64;
+
+const _: () = assert!(URLS == crate::URLS && CONNECTIONS == crate::CONNECTIONS);
 
 /// How wide a policy is.
 #[derive(Clone, Copy, Debug, PartialEq, Eq)]

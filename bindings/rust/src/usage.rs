@@ -29,6 +29,8 @@ pub const LIST_BYTES: usize = 65_536;
 /// URLs are below this.
 pub const URLS: usize = 64;
 
+const _: () = assert!(URLS == crate::URLS);
+
 const LIST_BAD: u32 = 13;
 
 /// What a list of requests has in it.

@@ -1,9 +1,15 @@
 //! The tally through the binding: what is counted, each reason why a list is bad, and the requests of a session.
 
+mod random;
+
 use std::error::Error;
 
+use random::Random;
 use zolherima::usage::{count, ListBad, Tally, LIST_BYTES, URLS};
-use zolherima::{feed, NO_PARTNER, NO_URL, OUT_BYTES, POLICY_WORDS, SCRIPT_BYTES, STATE_WORDS};
+use zolherima::{
+    feed, requests, Request, RequestBad, RequestKind, NO_PARTNER, NO_URL, OUT_BYTES, POLICY_WORDS,
+    SCRIPT_BYTES, STATE_WORDS,
+};
 
 /// Of some URLs the records and cookies; of all others none.
 fn tally(rows: &[(usize, u32, u32)]) -> Tally {
@@ -122,4 +128,52 @@ fn the_example_is_what_a_session_sent() {
     }
     assert_eq!(sent, include_bytes!("../../../crates/tally/stdin"));
     assert_eq!(count(&sent), Ok(tally(&[(0, 2, 1), (1, 2, 1), (2, 1, 1)])));
+}
+
+/// The requests that are read one by one are those that are counted.
+#[test]
+fn a_list_is_counted_just_where_each_request_is_read() {
+    let mut random = Random::new(10);
+    let (mut counted, mut bad) = (0, 0);
+    for _ in 0..5000 {
+        let list = some_list(&mut random);
+        let read: Result<Vec<Request>, RequestBad> = requests(&list).collect();
+        match (read, count(&list)) {
+            (Ok(read), Ok(tally)) => {
+                counted += 1;
+                assert_eq!(read.len(), tally.all_records as usize);
+                let cookies: usize = read.iter().map(|request| request.cookies.len()).sum();
+                assert_eq!(cookies, tally.all_cookies as usize);
+            }
+            (Err(_), Err(ListBad)) => bad += 1,
+            (read, tally) => panic!("{list:x?}: {read:?}, {tally:?}"),
+        }
+    }
+    assert!(500 < counted && 500 < bad, "{counted} counted, {bad} bad");
+}
+
+/// Requests, of which some have a byte changed.
+fn some_list(random: &mut Random) -> Vec<u8> {
+    let mut list = Vec::new();
+    for _ in 0..random.below(6) {
+        let handler = random.below(16) as u8;
+        let kinds = [
+            RequestKind::Document,
+            RequestKind::Script { handler },
+            RequestKind::Picture,
+        ];
+        let request = Request {
+            kind: random.one_of(&kinds),
+            url: random.below(64) as u8,
+            connection: random.below(32) as u8,
+            cookies: random.cookies(),
+        };
+        let (bytes, length) = request.write();
+        list.extend(&bytes[..length]);
+        if random.once_in(4) {
+            let at = random.below(list.len() as u32) as usize;
+            list[at] ^= 1 << random.below(8);
+        }
+    }
+    list
 }
