@@ -4,7 +4,7 @@ ghost use Rattle.cookie.specs.SetCookie.{secure_word, http_only_word, is_called,
 
 use super::parts::{is_word, position, trim};
 
-#[derive(Drop)]
+#[derive(Clone, Copy)]
 pub struct Flags {
     pub secure: bool,
     pub http_only: bool,

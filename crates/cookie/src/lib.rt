@@ -1,4 +1,6 @@
 // What a Set-Cookie line says of a cookie (document 01, "Take in Set-Cookie lines"): its key, its value, its flags, and who may read it.
+#![tactic(auto)]
+
 ghost use Rattle.std.specs.Prelude.{◌≡◌, ◌<◌};
 ghost use Rattle.machine.specs.Policy.{host_keys};
 ghost use Rattle.cookie.specs.Import.{refused, answer, imported};
@@ -31,7 +33,7 @@ pub const NO_NUMBER: u32 = 16;
 
 // What is answered: 0, and what the line says; or the number of the first refusal that fits, and zeros.
 #[repr(C)]
-#[derive(Drop)]
+#[derive(Clone, Copy)]
 pub struct Imported {
     pub number: u32,
     pub key: u32,

@@ -1,4 +1,6 @@
 // Reads Set-Cookie lines from standard input and prints for each the policy word that it settles: docs/IMPORT.md.
+#![tactic(auto)]
+
 ghost use Rattle.std.specs.Prelude.{◌≡◌, ◌+◌, ◌≤◌, length};
 ghost use Rattle.cookie.specs.Import.{names_bytes};
 ghost use Rattle.import.specs.Lines.{lines, IsLine};

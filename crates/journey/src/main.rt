@@ -1,4 +1,6 @@
 // Reads a policy from standard input and prints the connection that carries a journey, whose URLs are the arguments: docs/JOURNEY.md.
+#![tactic(auto)]
+
 ghost use Rattle.std.specs.Prelude.{◌≡◌, ◌≤◌, length};
 ghost use Rattle.journey.specs.Report.{printed};
 

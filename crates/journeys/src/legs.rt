@@ -18,7 +18,7 @@ pub const READERS_FORBID: u32 = 8;
 pub const WRITERS_FORBID: u32 = 9;
 
 // What labels say: 0, or the number that forbids it and the endpoint that is missing.
-#[derive(Drop)]
+#[derive(Clone, Copy)]
 pub struct Judged {
     pub number: u32,
     pub missing: u32,

@@ -1,5 +1,7 @@
 // Which connection carries a journey (document 01, "Find a lane for a journey"): URLs gone to one after another, the first by a load and each further
 // one by a redirect. A connection is document 01's lane.
+#![tactic(auto)]
+
 ghost use Rattle.std.specs.Prelude.{◌≡◌};
 ghost use Rattle.journeys.specs.Journey.{refused, found, refused_stop, stopped};
 
@@ -33,7 +35,7 @@ pub const NO_CONNECTION: u32 = CONNECTIONS as u32;
 
 // What is answered: 0 and a connection, or `NO_CONNECTION`; or the number of the first refusal that fits, and 0.
 #[repr(C)]
-#[derive(Drop)]
+#[derive(Clone, Copy)]
 pub struct Found {
     pub number: u32,
     pub connection: u32,
@@ -69,7 +71,7 @@ pub extern "C" fn journey_find(policy: &[u32], urls: &[u8]) -> Found
 // the URL that is asked for there, and 1 where the set that lacks the endpoint is the URL's. Where it carries the journey: 0, the length, 0,
 // `NONE_MISSING`, 0 and 0. Or the number of the first refusal that fits, and zeros.
 #[repr(C)]
-#[derive(Drop)]
+#[derive(Clone, Copy)]
 pub struct Stop {
     pub number: u32,
     pub place: u32,

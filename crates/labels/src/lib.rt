@@ -1,4 +1,6 @@
 // Sets of endpoints, and the endpoints of an address (document 01, "Marks and sets").
+#![tactic(auto)]
+
 ghost use Rattle.std.specs.Prelude.{◌≡◌};
 ghost use Rattle.labels.specs.Sets.{holds, missing, only, empty, all};
 
@@ -11,7 +13,7 @@ pub const LAST_ENDPOINT: u32 = 31;
 pub const NONE_MISSING: u32 = 32;
 
 // A set of the 32 endpoints: bit a stands for endpoint a. Document 01 calls an endpoint a mark.
-#[derive(Drop)]
+#[derive(Clone, Copy)]
 pub struct EndpointSet {
     pub bits: u32,
 }
@@ -42,8 +44,7 @@ impl EndpointSet {
     // The set of `endpoint` alone; empty where it is above 31. Said here too: the two constants are the definitions' sets.
     pub fn only(endpoint: u32) -> EndpointSet
         ensures singleton { result.bits ≡ only endpoint }
-        ensures* constants { do
-          ⌜ ((← (⟦EndpointSet::EMPTY.bits⟧).entry) ≡ empty) × ((← (⟦EndpointSet::ALL.bits⟧).entry) ≡ all) ⌝ }
+        ensures constants { (EndpointSet.EMPTY.bits ≡ empty) × (EndpointSet.ALL.bits ≡ all) }
     {
         if LAST_ENDPOINT < endpoint {
             return EndpointSet::EMPTY;

@@ -1,1 +1,2 @@
 // No code: the definitions are in specs/, the theorems in proofs/.
+#![tactic(auto)]

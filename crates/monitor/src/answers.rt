@@ -23,7 +23,7 @@ pub const READERS_FORBID: u32 = 8;
 pub const WRITERS_FORBID: u32 = 9;
 
 // The endpoint that is missing comes with 8 and 9; every other answer has `NONE_MISSING`.
-#[derive(Drop)]
+#[derive(Clone, Copy)]
 pub struct Done {
     pub number: u32,
     pub bytes: usize,

@@ -26,7 +26,7 @@ use session::requests::send;
 use session::words::{connection_word, set_connection};
 
 // What can arrive on a connection: a document, with the script that it runs; a value for a script's request; a picture; a redirect to a target.
-#[derive(Drop)]
+#[derive(Clone, Copy)]
 pub enum Arrived {
     DocumentResponse(usize),
     ScriptResponse(u32),
@@ -35,7 +35,7 @@ pub enum Arrived {
 }
 
 // What comes with it: cookies for the host of a URL, on a connection.
-#[derive(Drop)]
+#[derive(Clone, Copy)]
 pub struct Delivery {
     pub url: usize,
     pub connection: usize,
@@ -173,7 +173,7 @@ fn of_kind(kind: u32, what: Arrived) -> bool
 }
 
 // What is missing: a reader, which 8 tells, and a writer, which 9 tells.
-#[derive(Drop)]
+#[derive(Clone, Copy)]
 struct Missing {
     reader: u32,
     writer: u32,

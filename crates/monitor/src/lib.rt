@@ -1,4 +1,6 @@
 // The monitor (document 01, "The monitor's numbers" and "What each accepted record does"): `monitor_feed`, one call for each record.
+#![tactic(auto)]
+
 ghost use Rattle.std.specs.Prelude.{◌≡◌};
 ghost use Rattle.machine.specs.Machine.{feed};
 ghost use Rattle.monitor.specs.Answers.{answered};
@@ -15,7 +17,7 @@ pub const STATE_WORDS: usize = session::words::WORDS;
 // What a call answers: 0, the bytes of requests that it wrote and the script steps that it ran; or a refusal's number and zeros. Where readers or
 // writers forbid it, the endpoint that is missing, and else 32.
 #[repr(C)]
-#[derive(Drop)]
+#[derive(Clone, Copy)]
 pub struct Answer {
     pub number: u32,
     pub bytes: u32,

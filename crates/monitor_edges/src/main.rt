@@ -1,5 +1,7 @@
 // Runs calls of the monitor as the directives of standard input say; what it writes is held to the file stdout.
 // The comments at the top of the file stdin say what a directive is.
+#![tactic(auto)]
+
 ghost use Rattle.std.specs.Prelude.{◌+◌, ◌<◌, ◌≤◌, length};
 
 use libc::{STDIN_FILENO, STDOUT_FILENO};

@@ -1,5 +1,7 @@
 // The questions that a policy answers (document 01, "The policy", "Scripts" and "The monitor's numbers"), each equal to its definition
 // in `machine`. A connection is document 01's lane; readers and writers are its readers and authors.
+#![tactic(auto)]
+
 ghost use Rattle.std.specs.Prelude.{◌≡◌, true, ◌<◌};
 ghost use Rattle.labels.specs.Addresses.{hosts};
 ghost use Rattle.labels.specs.Sets.{unheld};

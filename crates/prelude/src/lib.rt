@@ -1,1 +1,2 @@
 // No code: the definitions that every crate shares are in specs/, their laws in proofs/.
+#![tactic(auto)]

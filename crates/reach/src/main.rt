@@ -1,4 +1,6 @@
 // Reads a policy from standard input and prints how many URLs each connection reaches, and how many all of them: docs/REACH.md.
+#![tactic(auto)]
+
 ghost use Rattle.std.specs.Prelude.{◌≡◌, ◌≤◌, length};
 ghost use Rattle.text.specs.Text.{AtFront};
 ghost use Rattle.reach.specs.Report.{report_room, printed};

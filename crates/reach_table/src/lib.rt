@@ -1,5 +1,7 @@
 // How wide a policy is (document 01, "A reach table"): how many URLs each connection reaches, and how many all of them. A connection is document 01's
 // lane.
+#![tactic(auto)]
+
 ghost use Rattle.std.specs.Prelude.{◌≡◌, map, ◌<◌, ◌≤◌, length, get_or};
 ghost use Rattle.prelude.specs.Lists.{numbers};
 ghost use Rattle.prelude.specs.Sums.{sum_below};
@@ -19,7 +21,7 @@ pub const POLICY_BAD: u32 = 2;
 
 // What is answered: 0, for each connection how many URLs it reaches, and their sum; or 2 and zeros.
 #[repr(C)]
-#[derive(Drop)]
+#[derive(Clone, Copy)]
 pub struct ReachTable {
     pub number: u32,
     pub urls: [u32; CONNECTIONS],

@@ -3,6 +3,8 @@
 // written back at that length, and with how many it is refused with 10, with 12 and with 11. Shown are map byte, length and these four where they
 // are others than at the length before; a map byte that is not shown is 10 throughout. Then the records of standard input, whose comments
 // say how they are written.
+#![tactic(auto)]
+
 ghost use Rattle.std.specs.Prelude.{◌<◌, ◌≤◌};
 
 use libc::{STDIN_FILENO, STDOUT_FILENO};
@@ -33,7 +35,7 @@ fn print_number(n: u32) {
 // ---- every map at every length
 
 // How many of 256 records are accepted and written back, and how many are refused with each number.
-#[derive(Drop)]
+#[derive(Clone, Copy)]
 struct Counts {
     accepted: u32,
     kind: u32,

@@ -9,7 +9,7 @@ use super::places::{COOKIES, Places};
 use super::{ACCEPTED, Direction, KEY_MAP_EMPTY, KIND_UNKNOWN};
 
 // 0, the map, the key map and the length that they call for; or the number of what the maps refuse, and zeros.
-#[derive(Drop)]
+#[derive(Clone, Copy)]
 pub struct Header {
     pub number: u32,
     pub map: u8,

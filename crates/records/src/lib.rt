@@ -1,4 +1,6 @@
 // Records: the wire format of what the monitor is fed and what it sends (document 01, "Records").
+#![tactic(auto)]
+
 ghost use Rattle.std.specs.Prelude.{◌≡◌};
 ghost use Rattle.records.specs.Codec.{refused, decoded, first, decoded_first, written, encoded};
 
@@ -30,14 +32,14 @@ pub const KEY_MAP_EMPTY: u32 = 12;
 pub const CUT_OR_TOO_LONG: u32 = 11;
 
 // Whether a record is an input of the monitor or a request that it sends.
-#[derive(Drop)]
+#[derive(Clone, Copy)]
 pub enum Direction {
     Input,
     Request,
 }
 
 // The fields of a record; one that the map does not carry is 0. Document 01 calls a connection a lane.
-#[derive(Drop)]
+#[derive(Clone, Copy)]
 pub struct Record {
     pub map: u8,
     pub url: u8,
@@ -51,14 +53,14 @@ pub struct Record {
 }
 
 // What decoding answers: 0 and the fields, or a refusal and every field 0.
-#[derive(Drop)]
+#[derive(Clone, Copy)]
 pub struct Decoded {
     pub number: u32,
     pub fields: Record,
 }
 
 // What encoding answers: 0 and the bytes written, or a refusal and 0.
-#[derive(Drop)]
+#[derive(Clone, Copy)]
 pub struct Encoded {
     pub number: u32,
     pub length: usize,
@@ -101,7 +103,7 @@ pub fn decode(direction: Direction, bytes: &[u8]) -> Decoded
 }
 
 // The first of some records one after another, as `decode` reads it, and how many bytes it has; 0 where it is refused.
-#[derive(Drop)]
+#[derive(Clone, Copy)]
 pub struct First {
     pub number: u32,
     pub fields: Record,

@@ -19,7 +19,7 @@ pub const VALUE: usize = 4;
 pub const TARGET: usize = 5;
 
 // The first byte of each field past the URL, which is at 1, and the length of the whole record.
-#[derive(Drop)]
+#[derive(Clone, Copy)]
 pub struct Places {
     pub connection: usize,
     pub keys: usize,

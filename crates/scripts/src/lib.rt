@@ -1,4 +1,6 @@
 // The interpreter of scripts (document 01, "Scripts"): it is lent the 128 bytes of one script, the state and the output.
+#![tactic(auto)]
+
 ghost use Rattle.std.specs.Prelude.{◌≡◌, length};
 ghost use Rattle.machine.specs.Scripts.{script_bytes, step_limit, starting_with, step_at, run_from};
 ghost use Rattle.session.specs.Output.{output};
@@ -22,7 +24,7 @@ pub const TABLE_BYTES: usize = SCRIPTS * SCRIPT_BYTES;
 pub const STEP_LIMIT: u32 = SCRIPT_STEPS as u32;
 
 // What a run answers: how many steps it met, and how many bytes of requests it wrote.
-#[derive(Drop)]
+#[derive(Clone, Copy)]
 pub struct Ran {
     pub steps: u32,
     pub written: usize,

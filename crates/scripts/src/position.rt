@@ -8,7 +8,7 @@ pub const SCRIPT_STEPS: usize = 32;
 pub const REGISTERS: usize = 4;
 
 // The place of the next step, and how many bytes of requests were written. The registers stand apart: a step writes one of them in place.
-#[derive(Drop)]
+#[derive(Clone, Copy)]
 pub struct Position {
     pub place: usize,
     pub written: usize,

@@ -1,5 +1,7 @@
 // The session (document 01, "The state" and "What each accepted record does"): the 176 words that the caller lends, and what is done to
 // them. A connection is document 01's lane.
+#![tactic(auto)]
+
 pub mod cookies;
 pub mod kinds;
 pub mod pending;

@@ -9,7 +9,7 @@ pub const FREE: u32 = 0;
 pub const SCRIPTS: usize = 16;
 
 // A connection's kind and URL; for a script's request the page that sent it and the script that handles its response, else 0.
-#[derive(Drop)]
+#[derive(Clone, Copy)]
 pub struct Pending {
     pub kind: u32,
     pub origin: usize,

@@ -1,4 +1,6 @@
 // Counts the requests of standard input by URL and prints the counts (document 01, "A tally of requests").
+#![tactic(auto)]
+
 ghost use Rattle.std.specs.Prelude.{◌≡◌, ◌<◌, ◌≤◌, length};
 ghost use Rattle.text.specs.Text.{AtFront};
 ghost use Rattle.usage.specs.Tally.{list_bytes};

@@ -8,7 +8,7 @@ const MOST_DIGITS: usize = 10;
 const LARGEST: u64 = 4_294_967_295;
 
 // What a text is, read as a number: one, or anything else.
-#[derive(Drop)]
+#[derive(Clone, Copy)]
 pub enum Value {
     Number(u32),
     Other,

@@ -1,5 +1,7 @@
 // Text: pieces of a line, for programs that print. Each is written from a place of a text on, and the place after it is answered. Numbers are read
 // as well.
+#![tactic(auto)]
+
 ghost use Rattle.std.specs.Prelude.{◌+◌, ◌<◌, ◌≤◌, ◌≡◌, [], ◌∷◌, ◌++◌, length};
 ghost use Rattle.text.specs.Text.{decimal, hex_digit, hex, hex_word, line, Wrote};
 

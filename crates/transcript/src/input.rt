@@ -14,7 +14,7 @@ pub const RECORDS_AT: usize = POLICY_BYTES + TABLE_BYTES;
 pub const INPUT_LIMIT: usize = 65_536;
 
 // Whether an input is one that walk takes.
-#[derive(Drop)]
+#[derive(Clone, Copy)]
 pub enum InputSize {
     Short,
     Long,
@@ -66,7 +66,7 @@ pub fn policy_words(input: &[u8]) -> [u32; WORDS]
 pub const POLICY_INPUT_ROOM: usize = POLICY_BYTES + 1;
 
 // The policy of an input that is nothing else: so many of the words, and none where the input has another length.
-#[derive(Drop)]
+#[derive(Clone, Copy)]
 pub struct PolicyRead {
     pub words: [u32; WORDS],
     pub count: usize,
@@ -88,14 +88,14 @@ pub fn read_policy(input: &[u8]) -> PolicyRead
 }
 
 // How the records end: after a whole one, or within one.
-#[derive(Drop)]
+#[derive(Clone, Copy)]
 pub enum Ending {
     End,
     Cut,
 }
 
 // What is at a place of the input: a record, whose bytes are all there, or the end of the records.
-#[derive(Drop)]
+#[derive(Clone, Copy)]
 pub enum Next {
     Record { start: usize, length: usize },
     Last(Ending),

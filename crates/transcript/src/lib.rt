@@ -1,4 +1,6 @@
 // What walk reads and the text that it prints (document 01, "Program walk").
+#![tactic(auto)]
+
 mod counts;
 mod input;
 mod lines;

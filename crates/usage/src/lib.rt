@@ -1,4 +1,6 @@
 // The tally of requests (document 01, "A tally of requests"): which URLs were requested, how often, and with how many cookies.
+#![tactic(auto)]
+
 ghost use Rattle.std.specs.Prelude.{◌≡◌, ◌≤◌, length};
 ghost use Rattle.usage.specs.Tally.{in_range, list_bytes, refused, tallied};
 
@@ -16,7 +18,7 @@ pub const LIST_BAD: u32 = 13;
 
 // What is answered: 0, for each URL its records and the cookies that they carry, and both in all; or 13 and zeros.
 #[repr(C)]
-#[derive(Drop)]
+#[derive(Clone, Copy)]
 pub struct Tally {
     pub number: u32,
     pub records: [u32; URL_ROWS],

@@ -1,5 +1,7 @@
 // Feeds the records of standard input to the monitor, from the empty state, and prints what it answers and sends (document 01,
 // "Program walk"). The text of every line is `transcript`'s.
+#![tactic(auto)]
+
 ghost use Rattle.std.specs.Prelude.{◌≤◌, length};
 ghost use Rattle.transcript.specs.Input.{records_at, input_limit};
 

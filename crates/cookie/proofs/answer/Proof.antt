@@ -1,5 +1,5 @@
 -- `answer` meets its contract: the word that holds the host's endpoints is theirs.
-use Rattle.prelude.proofs.Kit.{ℕ, ap, needs}
+use Rattle.prelude.proofs.Kit.{ℕ, ap, rules}
 use Rattle.labels.specs.Addresses.{host_endpoints}
 use Rattle.labels.proofs.Words.{word_is}
 use Rattle.prelude.specs.Refusals.{accepted}
@@ -11,7 +11,7 @@ returns c =
     let a = c.before.args in
     let said = c.host-endpoints in
     ap (λ (readers : ℕ). record { number = accepted; key = a.key; value = a.value; secure = a.flags.secure; http_only = a.flags.http_only; readers = readers })
-    (word_is (host_endpoints a.host a.flags.secure) said.result (search needs) (λ e l. said.ensures e))
+    (word_is (host_endpoints a.host a.flags.secure) said.result (search rules) (λ e l. said.ensures e))
 
 pub answer-spec : {M : Type 1} → statement M
-answer-spec = tie.close (tie.spec (λ c. search needs) (λ c κs. search needs) returns)
+answer-spec = tie.close (tie.spec (λ c. search rules) (λ c κs. search rules) returns)

@@ -1,5 +1,5 @@
 -- `cookie_import` meets its contract: at each return the tests before it say what is answered.
-use Rattle.prelude.proofs.Kit.{ℕ, ◌≤◌, ◌<◌, ◌+◌, ◌-◌, arith, true, false, List, ◌≡◌, sym, ◌∙◌, ap, ap₂, now, length, take, drop, length-take-le, lt-ltb, le-ltb, needs}
+use Rattle.prelude.proofs.Kit.{ℕ, ◌≤◌, ◌<◌, ◌+◌, ◌-◌, arith, true, false, List, ◌≡◌, sym, ◌∙◌, ap, ap₂, now, length, take, drop, length-take-le, lt-ltb, le-ltb, rules}
 use Rattle.prelude.proofs.Lists.{rest_is}
 use Rattle.prelude.proofs.Lowest.{lowest_most}
 use Rattle.labels.specs.Addresses.{hosts}
@@ -156,7 +156,7 @@ answer-requires : tie.Need-answer-requires
 answer-requires c κs = let e = keyed c.before.before in omega (arith, key_is e.before, e.if5.left, lowest_most host_keys (is_named (names (looked e)) (name_of (pair_of (line (looked e))))))
 
 enum_told : tie.Need-enum-told
-enum_told c = search needs
+enum_told c = search rules
 
 returns-6 : tie.Need-returns-6
 returns-6 c =
@@ -186,35 +186,35 @@ pub cookie-import-spec : {M : Type 1} → statement M
 cookie-import-spec =
     tie.close
     (tie.spec
-    (λ c κs. search needs)
+    (λ c κs. search rules)
     returns
-    (λ c κs. search needs)
+    (λ c κs. search rules)
     slice-aggregate-pair
-    (λ c κs. search needs)
-    (λ c κs. search needs)
+    (λ c κs. search rules)
+    (λ c κs. search rules)
     returns-2
     slice-aggregate-trim
-    (λ c κs. search needs)
-    (λ c κs. search needs)
+    (λ c κs. search rules)
+    (λ c κs. search rules)
     returns-3
-    (λ c κs. search needs)
+    (λ c κs. search rules)
     returns-4
-    (λ c κs. search needs)
-    (λ c κs. search needs)
+    (λ c κs. search rules)
+    (λ c κs. search rules)
     returns-5
     add-value-start
     sub-trim
     part-trim-start
-    (λ c. search needs)
-    (λ c κs. search needs)
-    (λ c κs. search needs)
-    (λ c. search needs)
+    (λ c. search rules)
+    (λ c κs. search rules)
+    (λ c κs. search rules)
+    (λ c. search rules)
     sub-flags-of
     part-flags-of-start
-    (λ c. search needs)
-    (λ c κs. search needs)
+    (λ c. search rules)
+    (λ c κs. search rules)
     answer-requires
     enum_told
-    (λ c κs. search needs)
+    (λ c κs. search rules)
     returns-6
     returns-7)

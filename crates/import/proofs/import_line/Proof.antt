@@ -1,5 +1,5 @@
 -- `import_line` meets what it asks of `print`: what was written at the front of the text is all that is printed of the line.
-use Rattle.prelude.proofs.Kit.{ℕ, List, sym, ◌∙◌, now, length-take-le, needs}
+use Rattle.prelude.proofs.Kit.{ℕ, List, sym, ◌∙◌, now, length-take-le, rules}
 use Rattle.import.specs.Report.{line_text}
 use Rattle.text.proofs.Writing.{front_within, front_is}
 use Rattle.import.proofs.import_line.Statement.{statement}
@@ -24,9 +24,9 @@ pub import-line-spec : {M : Type 1} → statement M
 import-line-spec =
     tie.close
     (tie.spec
-    (λ c. search needs)
-    (λ c κs. search needs)
+    (λ c. search rules)
+    (λ c κs. search rules)
     array-share-prefix-text
     slice-aggregate-print
     print-requires
-    (λ c. search needs))
+    (λ c. search rules))

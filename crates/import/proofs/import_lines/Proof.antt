@@ -1,5 +1,5 @@
 -- `import_lines` meets its contract: each line is printed as the next of the input, and the last ends it.
-use Rattle.prelude.proofs.Kit.{ℕ, ◌≤◌, ◌<◌, ◌+◌, ◌-◌, arith, List, ◌≡◌, sym, ◌∙◌, ap, subst, needs, now, length, take, drop, length-drop, length-take-le}
+use Rattle.prelude.proofs.Kit.{ℕ, ◌≤◌, ◌<◌, ◌+◌, ◌-◌, arith, List, ◌≡◌, sym, ◌∙◌, ap, subst, rules, now, length, take, drop, length-drop, length-take-le}
 use Rattle.prelude.proofs.Lists.{rest_is}
 use Rattle.text.specs.Text.{newline}
 use Rattle.cookie.specs.Parts.{before}
@@ -84,10 +84,10 @@ import-lines-spec =
     invariant-loop
     decreases-loop
     loop-holds
-    (λ c. search needs)
-    (λ c. search needs)
-    (λ c. search needs)
-    (λ c κs. search needs)
+    (λ c. search rules)
+    (λ c. search rules)
+    (λ c. search rules)
+    (λ c κs. search rules)
     add-nth
     slice-aggregate-import-line
     import-line-requires

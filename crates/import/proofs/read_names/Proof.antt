@@ -1,5 +1,5 @@
 -- `read_names` is safe: there are at most eight names, and each is put in its own 16 bytes.
-use Rattle.prelude.proofs.Kit.{◌-◌, ◌≡◌, needs, length}
+use Rattle.prelude.proofs.Kit.{◌-◌, ◌≡◌, rules, length}
 use Rattle.import.proofs.read_names.Statement.{statement}
 use Rattle.import.proofs.read_names.Tie as tie
 
@@ -15,24 +15,24 @@ read-names-spec =
     (tie.spec
     invariant-loop
     decreases-loop
-    (λ c κs. search needs)
-    (λ c. search needs)
-    (λ c. search needs)
-    (λ c. search needs)
-    (λ c. search needs)
-    (λ c. search needs)
-    (λ c. search needs)
-    (λ c. search needs)
-    (λ c. search needs)
-    (λ c. search needs)
-    (λ c. search needs)
-    (λ c. search needs)
-    (λ c κs. search needs)
-    (λ c κs. search needs)
-    (λ c. search needs)
-    (λ c. search needs)
-    (λ c. search needs)
-    (λ c. search needs)
-    (λ c. search needs)
-    (λ c. search needs)
-    (λ c. search needs))
+    (λ c κs. search rules)
+    (λ c. search rules)
+    (λ c. search rules)
+    (λ c. search rules)
+    (λ c. search rules)
+    (λ c. search rules)
+    (λ c. search rules)
+    (λ c. search rules)
+    (λ c. search rules)
+    (λ c. search rules)
+    (λ c. search rules)
+    (λ c. search rules)
+    (λ c κs. search rules)
+    (λ c κs. search rules)
+    (λ c. search rules)
+    (λ c. search rules)
+    (λ c. search rules)
+    (λ c. search rules)
+    (λ c. search rules)
+    (λ c. search rules)
+    (λ c. search rules))

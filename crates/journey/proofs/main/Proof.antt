@@ -1,5 +1,5 @@
 -- `main` meets what it asks of its callees: the URLs that were read are within their room.
-use Rattle.prelude.proofs.Kit.{sym, arith, needs, length-take-le}
+use Rattle.prelude.proofs.Kit.{sym, arith, rules, length-take-le}
 use Rattle.journey.proofs.main.Statement.{statement}
 use Rattle.journey.proofs.main.Tie as tie
 
@@ -12,15 +12,15 @@ pub main_spec : {M : Type 1} → statement M
 main_spec =
     tie.close
     (tie.spec
-    (λ c. search needs)
-    (λ c κs. search needs)
-    (λ c κs. search needs)
-    (λ c. search needs)
-    (λ c. search needs)
-    (λ c κs. search needs)
-    (λ c. search needs)
-    (λ c. search needs)
-    (λ c. search needs)
+    (λ c. search rules)
+    (λ c κs. search rules)
+    (λ c κs. search rules)
+    (λ c. search rules)
+    (λ c. search rules)
+    (λ c κs. search rules)
+    (λ c. search rules)
+    (λ c. search rules)
+    (λ c. search rules)
     slice-aggregate-find-2
-    (λ c κs. search needs)
-    (λ c. search needs))
+    (λ c κs. search rules)
+    (λ c. search rules))

@@ -1,5 +1,5 @@
 -- `read_urls` meets its contract: no more URLs are put than there is room for.
-use Rattle.prelude.proofs.Kit.{◌≤◌, ◌-◌, ◌≡◌, ◌∙◌, refl, arith, needs, length}
+use Rattle.prelude.proofs.Kit.{◌≤◌, ◌-◌, ◌≡◌, ◌∙◌, refl, arith, rules, length}
 use Rattle.journey.proofs.read_urls.Statement.{statement}
 use Rattle.journey.proofs.read_urls.Tie as tie
 
@@ -24,16 +24,16 @@ read-urls-spec =
     (tie.spec
     invariant-loop
     decreases-loop
-    (λ c κs. search needs)
+    (λ c κs. search rules)
     (λ c. (omega arith, refl))
-    (λ c κs. search needs)
-    (λ c. search needs)
+    (λ c κs. search rules)
+    (λ c. search rules)
     put-requires
-    (λ c. search needs)
+    (λ c. search rules)
     (λ c. c.before.before.before.before.loop.invariant.1)
-    (λ c. search needs)
-    (λ c. search needs)
-    (λ c. search needs)
+    (λ c. search rules)
+    (λ c. search rules)
+    (λ c. search rules)
     loop-again
     (λ c. c.before.loop.invariant.1)
     (λ c. c.before.loop.invariant.0))

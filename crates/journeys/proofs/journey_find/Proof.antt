@@ -1,5 +1,5 @@
 -- `journey_find` meets its contract: the first refusal that applies, or the lowest connection that carries the journey.
-use Rattle.prelude.proofs.Kit.{◌≡◌, sym, ◌∙◌, ap, subst, arith, true, needs, not-false, not-true, now, T}
+use Rattle.prelude.proofs.Kit.{◌≡◌, sym, ◌∙◌, ap, subst, arith, true, rules, not-false, not-true, now, T}
 use Rattle.prelude.proofs.Lowest.{lowest_most}
 use Rattle.machine.specs.Policy.{connections, well_formed}
 use Rattle.policy.specs.Given.{WellFormed}
@@ -53,11 +53,11 @@ pub journey-find-spec : {M : Type 1} → statement M
 journey-find-spec =
     tie.close
     (tie.spec
-    (λ c κs. search needs)
-    (λ c κs. search needs)
+    (λ c κs. search rules)
+    (λ c κs. search rules)
     returns
     (λ c κs. formed c)
-    (λ c κs. search needs)
+    (λ c κs. search rules)
     returns-2
     (λ c κs. given c)
     cast-t6

@@ -1,5 +1,5 @@
 -- `journey_stop` meets its contract: the first refusal that applies, or where and why the connection stops.
-use Rattle.prelude.proofs.Kit.{◌≡◌, sym, ◌∙◌, subst, true, needs, not-false, not-true, now, T}
+use Rattle.prelude.proofs.Kit.{◌≡◌, sym, ◌∙◌, subst, true, rules, not-false, not-true, now, T}
 use Rattle.machine.specs.Policy.{well_formed}
 use Rattle.policy.specs.Given.{WellFormed}
 use Rattle.journeys.specs.Journey.{is_journey}
@@ -61,13 +61,13 @@ pub journey-stop-spec : {M : Type 1} → statement M
 journey-stop-spec =
     tie.close
     (tie.spec
-    (λ c κs. search needs)
-    (λ c κs. search needs)
+    (λ c κs. search rules)
+    (λ c κs. search rules)
     returns
     (λ c κs. formed c)
-    (λ c κs. search needs)
+    (λ c κs. search rules)
     returns-2
-    (λ c κs. search needs)
+    (λ c κs. search rules)
     returns-3
     first-stop-requires
     returns-4)

@@ -1,5 +1,5 @@
 -- `monitor_feed` meets its contract: what `feed` leaves, with a count of bytes that fits 32 bits.
-use Rattle.prelude.proofs.Kit.{ap, needs, now, lit<}
+use Rattle.prelude.proofs.Kit.{ap, rules, now, lit<}
 use native.Mathlib.Nat.{lt_of_le_of_lt}
 use Rattle.records.proofs.RoundTrips.{longest_is}
 use Rattle.machine.specs.Machine.{Fed}
@@ -20,4 +20,4 @@ cast-t11 c =
     record { fits = rw e (lt_of_le_of_lt (rw longest_is.1 at small) (lit< tt)) }
 
 pub monitor-feed-spec : {M : Type 1} → statement M
-monitor-feed-spec = tie.close (tie.spec (λ c κs. search needs) cast-t11 (λ c. search needs) (λ c. search needs) (λ c. search needs))
+monitor-feed-spec = tie.close (tie.spec (λ c κs. search rules) cast-t11 (λ c. search rules) (λ c. search rules) (λ c. search rules))

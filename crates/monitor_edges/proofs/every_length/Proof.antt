@@ -1,5 +1,5 @@
 -- `monitor_edges::every_length` is safe and ends: its loop counts up to an end, which is the length of the record.
-use Rattle.prelude.proofs.Kit.{◌≤◌, ◌-◌, ◌≡◌, needs}
+use Rattle.prelude.proofs.Kit.{◌≤◌, ◌-◌, ◌≡◌, rules}
 use Rattle.monitor_edges.proofs.every_length.Statement.{statement}
 use Rattle.monitor_edges.proofs.every_length.Tie as tie
 
@@ -11,4 +11,4 @@ decreases-loop words «record» map before₀ length₀ length-end before length
 
 pub every-length-spec : {M : Type 1} → statement M
 every-length-spec =
-    tie.close (tie.spec invariant-loop decreases-loop (λ c. search needs) (λ c. search needs) (λ c. search needs) (λ c. search needs) (λ c κs. search needs) (λ c κs. search needs) (λ c. search needs) (λ c. search needs) (λ c. search needs) (λ c. search needs) (λ c. search needs))
+    tie.close (tie.spec invariant-loop decreases-loop (λ c. search rules) (λ c. search rules) (λ c. search rules) (λ c. search rules) (λ c κs. search rules) (λ c κs. search rules) (λ c. search rules) (λ c. search rules) (λ c. search rules) (λ c. search rules) (λ c. search rules))

@@ -1,5 +1,5 @@
 -- `monitor_edges::every_map` is safe and ends: its loop counts up to an end.
-use Rattle.prelude.proofs.Kit.{◌≤◌, ◌-◌, ◌≡◌, needs}
+use Rattle.prelude.proofs.Kit.{◌≤◌, ◌-◌, ◌≡◌, rules}
 use Rattle.monitor_edges.proofs.every_map.Statement.{statement}
 use Rattle.monitor_edges.proofs.every_map.Tie as tie
 
@@ -11,4 +11,4 @@ decreases-loop words record₀ map₀ «record» map = 256 - map
 
 pub every-map-spec : {M : Type 1} → statement M
 every-map-spec =
-    tie.close (tie.spec invariant-loop decreases-loop (λ c. search needs) (λ c. search needs) (λ c κs. search needs) (λ c. search needs) (λ c κs. search needs) (λ c. search needs) (λ c. search needs) (λ c. search needs) (λ c. search needs) (λ c. search needs))
+    tie.close (tie.spec invariant-loop decreases-loop (λ c. search rules) (λ c. search rules) (λ c κs. search rules) (λ c. search rules) (λ c κs. search rules) (λ c. search rules) (λ c. search rules) (λ c. search rules) (λ c. search rules) (λ c. search rules))

@@ -1,5 +1,5 @@
 -- `monitor_edges::keep` is safe and ends: its indices stay within what it reads and writes.
-use Rattle.prelude.proofs.Kit.{◌≤◌, ◌-◌, ◌≡◌, needs}
+use Rattle.prelude.proofs.Kit.{◌≤◌, ◌-◌, ◌≡◌, rules}
 use Rattle.monitor_edges.proofs.keep.Statement.{statement}
 use Rattle.monitor_edges.proofs.keep.Tie as tie
 
@@ -11,4 +11,4 @@ decreases-loop words₀ state i₀ i-end words i = i-end - i
 
 pub keep_spec : {M : Type 1} → statement M
 keep_spec =
-    tie.close (tie.spec invariant-loop decreases-loop (λ c. search needs) (λ c. search needs) (λ c. search needs) (λ c. search needs) (λ c κs. search needs) (λ c. search needs) (λ c. search needs) (λ c. search needs) (λ c. search needs) (λ c. search needs))
+    tie.close (tie.spec invariant-loop decreases-loop (λ c. search rules) (λ c. search rules) (λ c. search rules) (λ c. search rules) (λ c κs. search rules) (λ c. search rules) (λ c. search rules) (λ c. search rules) (λ c. search rules) (λ c. search rules))

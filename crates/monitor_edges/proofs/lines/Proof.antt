@@ -1,5 +1,5 @@
 -- `monitor_edges::lines` is safe and ends: its loop counts up to an end.
-use Rattle.prelude.proofs.Kit.{◌≤◌, ◌-◌, ◌≡◌, needs}
+use Rattle.prelude.proofs.Kit.{◌≤◌, ◌-◌, ◌≡◌, rules}
 use Rattle.monitor_edges.proofs.lines.Statement.{statement}
 use Rattle.monitor_edges.proofs.lines.Tie as tie
 
@@ -11,4 +11,4 @@ decreases-loop text words₀ start₀ i₀ i-end words start i = i-end - i
 
 pub lines-spec : {M : Type 1} → statement M
 lines-spec =
-    tie.close (tie.spec invariant-loop decreases-loop (λ c. search needs) (λ c κs. search needs) (λ c. search needs) (λ c. search needs) (λ c. search needs) (λ c. search needs) (λ c. search needs))
+    tie.close (tie.spec invariant-loop decreases-loop (λ c. search rules) (λ c κs. search rules) (λ c. search rules) (λ c. search rules) (λ c. search rules) (λ c. search rules) (λ c. search rules))

@@ -1,5 +1,5 @@
 -- `monitor_edges::set` is safe and ends: its loop counts up to an end.
-use Rattle.prelude.proofs.Kit.{◌-◌, ◌≡◌, needs}
+use Rattle.prelude.proofs.Kit.{◌-◌, ◌≡◌, rules}
 use Rattle.monitor_edges.proofs.set.Statement.{statement}
 use Rattle.monitor_edges.proofs.set.Tie as tie
 
@@ -11,4 +11,4 @@ decreases-loop text words₀ start end place₀ i₀ i-end words place i = i-end
 
 pub set_spec : {M : Type 1} → statement M
 set_spec =
-    tie.close (tie.spec invariant-loop decreases-loop (λ c κs. search needs) (λ c. search needs) (λ c. search needs) (λ c κs. search needs) (λ c. search needs) (λ c. search needs) (λ c. search needs) (λ c. search needs) (λ c. search needs))
+    tie.close (tie.spec invariant-loop decreases-loop (λ c κs. search rules) (λ c. search rules) (λ c. search rules) (λ c κs. search rules) (λ c. search rules) (λ c. search rules) (λ c. search rules) (λ c. search rules) (λ c. search rules))

@@ -1,5 +1,5 @@
 -- `monitor_edges::show` is safe and ends: its indices stay within what it reads and writes.
-use Rattle.prelude.proofs.Kit.{◌≤◌, ◌-◌, ◌≡◌, needs}
+use Rattle.prelude.proofs.Kit.{◌≤◌, ◌-◌, ◌≡◌, rules}
 use Rattle.monitor_edges.proofs.show.Statement.{statement}
 use Rattle.monitor_edges.proofs.show.Tie as tie
 
@@ -11,4 +11,4 @@ decreases-loop words state i₀ i-end i = i-end - i
 
 pub show-spec : {M : Type 1} → statement M
 show-spec =
-    tie.close (tie.spec invariant-loop decreases-loop (λ c. search needs) (λ c κs. search needs) (λ c κs. search needs) (λ c κs. search needs) (λ c κs. search needs) (λ c κs. search needs) (λ c. search needs) (λ c κs. search needs) (λ c. search needs) (λ c. search needs) (λ c κs. search needs) (λ c. search needs) (λ c. search needs) (λ c κs. search needs) (λ c. search needs) (λ c. search needs) (λ c. search needs) (λ c. search needs))
+    tie.close (tie.spec invariant-loop decreases-loop (λ c. search rules) (λ c κs. search rules) (λ c κs. search rules) (λ c κs. search rules) (λ c κs. search rules) (λ c κs. search rules) (λ c. search rules) (λ c κs. search rules) (λ c. search rules) (λ c. search rules) (λ c κs. search rules) (λ c. search rules) (λ c. search rules) (λ c κs. search rules) (λ c. search rules) (λ c. search rules) (λ c. search rules) (λ c. search rules))

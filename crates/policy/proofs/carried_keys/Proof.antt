@@ -1,5 +1,5 @@
 -- `carried_keys` meets its contract: the keys so far are the map below the key.
-use Rattle.prelude.proofs.Kit.{ℕ, ◌≤◌, ◌<◌, ◌+◌, ◌-◌, zero-le, arith, List, ◌≡◌, ◌∙◌, refl, ap, needs, now, lit<}
+use Rattle.prelude.proofs.Kit.{ℕ, ◌≤◌, ◌<◌, ◌+◌, ◌-◌, zero-le, arith, List, ◌≡◌, ◌∙◌, refl, ap, rules, now, lit<}
 use native.Mathlib.Nat.{lt_trans}
 use Rattle.labels.specs.Membership.{endpoints, is_none}
 use Rattle.labels.specs.Sets.{missing}
@@ -64,4 +64,4 @@ returns c = let l = c.before.loop in let all : l.key ≡ host_keys = omega arith
 
 pub carried-keys-spec : {M : Type 1} → statement M
 carried-keys-spec =
-    tie.close (tie.spec invariant-loop decreases-loop (λ c κs. search needs) (λ c κs. search needs) (λ c κs. search needs) loop-holds (λ c κs. search needs) (λ c κs. search needs) (λ c. search needs) (λ c. search needs) (λ c. search needs) add-keys (λ c. search needs) (λ c. search needs) loop-again cast-result returns)
+    tie.close (tie.spec invariant-loop decreases-loop (λ c κs. search rules) (λ c κs. search rules) (λ c κs. search rules) loop-holds (λ c κs. search rules) (λ c κs. search rules) (λ c. search rules) (λ c. search rules) (λ c. search rules) add-keys (λ c. search rules) (λ c. search rules) loop-again cast-result returns)

@@ -1,5 +1,5 @@
 -- `event_missing` meets its contract: what is missing of the event endpoint's own set is the endpoint.
-use Rattle.prelude.proofs.Kit.{needs, now}
+use Rattle.prelude.proofs.Kit.{rules, now}
 use Rattle.labels.proofs.Endpoints.{event_missing}
 use Rattle.machine.specs.Policy.{url_address}
 use Rattle.policy.proofs.event_missing.Statement.{statement}
@@ -13,4 +13,4 @@ returns c =
 
 pub event-missing-spec : {M : Type 1} → statement M
 event-missing-spec =
-    tie.close (tie.spec (λ c κs. search needs) (λ c κs. search needs) (λ c κs. search needs) returns)
+    tie.close (tie.spec (λ c κs. search rules) (λ c κs. search rules) (λ c κs. search rules) returns)

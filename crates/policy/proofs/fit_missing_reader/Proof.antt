@@ -1,5 +1,5 @@
 -- `fit_missing_reader` meets its contract: it asks what the definition asks.
-use Rattle.prelude.proofs.Kit.{needs}
+use Rattle.prelude.proofs.Kit.{rules}
 use Rattle.machine.specs.Policy.{fit_missing_reader}
 use Rattle.policy.proofs.fit_missing_reader.Statement.{statement}
 use Rattle.policy.proofs.fit_missing_reader.Tie as tie
@@ -10,4 +10,4 @@ returns c = rw (c.missing.ensures, c.before.before.connection-readers.ensures, c
 
 pub fit-missing-reader-spec : {M : Type 1} → statement M
 fit-missing-reader-spec =
-    tie.close (tie.spec (λ c κs. search needs) (λ c κs. search needs) (λ c κs. search needs) returns)
+    tie.close (tie.spec (λ c κs. search rules) (λ c κs. search rules) (λ c κs. search rules) returns)

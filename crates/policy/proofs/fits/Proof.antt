@@ -1,5 +1,5 @@
 -- `fits` meets its contract: its tests are those of the definition.
-use Rattle.prelude.proofs.Kit.{needs}
+use Rattle.prelude.proofs.Kit.{rules}
 use Rattle.machine.specs.Policy.{fits}
 use Rattle.policy.proofs.fits.Statement.{statement}
 use Rattle.policy.proofs.fits.Tie as tie
@@ -9,4 +9,4 @@ unfolding fits
 returns c = rw (c.before.fit-missing-reader.ensures, c.fit-missing-writer.ensures)
 
 pub fits-spec : {M : Type 1} → statement M
-fits-spec = tie.close (tie.spec (λ c κs. search needs) (λ c κs. search needs) returns)
+fits-spec = tie.close (tie.spec (λ c κs. search rules) (λ c κs. search rules) returns)

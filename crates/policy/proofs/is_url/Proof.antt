@@ -1,5 +1,5 @@
 -- `is_url` meets its contract: whether there is an address settles whether a row is empty.
-use Rattle.prelude.proofs.Kit.{◌<◌, arith, false≢true, needs, now}
+use Rattle.prelude.proofs.Kit.{◌<◌, arith, false≢true, rules, now}
 use Rattle.machine.specs.Policy.{url_rows}
 use Rattle.policy.proofs.Rows.{url_beyond, url_named, url_given}
 use Rattle.policy.proofs.is_url.Statement.{statement}
@@ -19,4 +19,4 @@ returns-2 c =
     rw c.lacks_address.ensures (url_named p u start.requires.formed l, url_given p u l)
 
 pub is-url-spec : {M : Type 1} → statement M
-is-url-spec = tie.close (tie.spec returns (λ c κs. search needs) returns-2)
+is-url-spec = tie.close (tie.spec returns (λ c κs. search rules) returns-2)

@@ -1,5 +1,5 @@
 -- `may_read` meets its contract: its tests are those of the definition.
-use Rattle.prelude.proofs.Kit.{needs}
+use Rattle.prelude.proofs.Kit.{rules}
 use Rattle.labels.proofs.Membership.{none_missing_lem}
 use Rattle.machine.specs.Policy.{may_read}
 use Rattle.policy.proofs.may_read.Statement.{statement}
@@ -11,4 +11,4 @@ returns c = rw (c.missing2.ensures, c.before.connection-writers.ensures, c.befor
 
 pub may-read-spec : {M : Type 1} → statement M
 may-read-spec =
-    tie.close (tie.spec (λ c κs. search needs) (λ c κs. search needs) (λ c κs. search needs) (λ c κs. search needs) (λ c κs. search needs) (λ c κs. search needs) returns)
+    tie.close (tie.spec (λ c κs. search rules) (λ c κs. search rules) (λ c κs. search rules) (λ c κs. search rules) (λ c κs. search rules) (λ c κs. search rules) returns)

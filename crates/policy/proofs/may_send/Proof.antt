@@ -1,5 +1,5 @@
 -- `may_send` meets its contract: its tests are those of the definition.
-use Rattle.prelude.proofs.Kit.{arith, and_assoc, needs, now}
+use Rattle.prelude.proofs.Kit.{arith, and_assoc, rules, now}
 use Rattle.labels.proofs.Membership.{none_missing_lem, none_unheld}
 use Rattle.machine.specs.Policy.{url_event, may_send}
 use Rattle.policy.proofs.may_send.Statement.{statement}
@@ -17,4 +17,4 @@ returns c =
 
 pub may-send-spec : {M : Type 1} → statement M
 may-send-spec =
-    tie.close (tie.spec (λ c κs. search needs) (λ c κs. search needs) (λ c κs. search needs) (λ c κs. search needs) (λ c κs. search needs) (λ c κs. search needs) (λ c κs. search needs) (λ c κs. search needs) (λ c κs. search needs) returns)
+    tie.close (tie.spec (λ c κs. search rules) (λ c κs. search rules) (λ c κs. search rules) (λ c κs. search rules) (λ c κs. search rules) (λ c κs. search rules) (λ c κs. search rules) (λ c κs. search rules) (λ c κs. search rules) returns)

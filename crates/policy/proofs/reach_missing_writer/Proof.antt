@@ -1,5 +1,5 @@
 -- `reach_missing_writer` meets its contract: an entry is not asked.
-use Rattle.prelude.proofs.Kit.{sym, ◌∙◌, needs}
+use Rattle.prelude.proofs.Kit.{sym, ◌∙◌, rules}
 use Rattle.prelude.specs.Choice.{branch}
 use Rattle.machine.specs.Policy.{reach_missing_writer}
 use Rattle.policy.proofs.reach_missing_writer.Statement.{statement}
@@ -14,4 +14,4 @@ unfolding reach_missing_writer branch
 returns-2 c = rw (sym c.before.is-entry.ensures ∙ c.if1.false, c.before.before.missing.ensures, c.before.before.before.url-writers.ensures)
 
 pub reach-missing-writer-spec : {M : Type 1} → statement M
-reach-missing-writer-spec = tie.close (tie.spec (λ c κs. search needs) (λ c κs. search needs) (λ c κs. search needs) returns returns-2)
+reach-missing-writer-spec = tie.close (tie.spec (λ c κs. search rules) (λ c κs. search rules) (λ c κs. search rules) returns returns-2)

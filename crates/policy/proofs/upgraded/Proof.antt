@@ -1,5 +1,5 @@
 -- `upgraded` meets its contract: its tests are those of the definition.
-use Rattle.prelude.proofs.Kit.{needs, now, le-ltb, lt-ltb, eq-eqb, ne_eqb}
+use Rattle.prelude.proofs.Kit.{rules, now, le-ltb, lt-ltb, eq-eqb, ne_eqb}
 use Rattle.prelude.specs.Choice.{branch}
 use Rattle.machine.specs.Policy.{url_rows, url_partner, no_partner, upgraded}
 use Rattle.policy.proofs.upgraded.Statement.{statement}
@@ -24,4 +24,4 @@ returns-3 c =
     rw (c.before.url-partner.ensures, lt-ltb a.url url_rows c.before.before.if1.false, ne_eqb (url_partner (now a.policy) a.url) no_partner some)
 
 pub upgraded-spec : {M : Type 1} → statement M
-upgraded-spec = tie.close (tie.spec returns (λ c κs. search needs) returns-2 (λ c. search needs) returns-3)
+upgraded-spec = tie.close (tie.spec returns (λ c κs. search rules) returns-2 (λ c. search rules) returns-3)

@@ -1,5 +1,5 @@
 -- `tell` meets what it asks of `print`: what was written at the front of the text is all that is printed of the input.
-use Rattle.prelude.proofs.Kit.{ℕ, List, sym, needs, now, length-take-le}
+use Rattle.prelude.proofs.Kit.{ℕ, List, sym, rules, now, length-take-le}
 use Rattle.text.proofs.Writing.{front_within, front_is}
 use Rattle.reach.specs.Report.{printed}
 use Rattle.reach.proofs.tell.Statement.{statement}
@@ -18,9 +18,9 @@ pub tell-spec : {M : Type 1} → statement M
 tell-spec =
     tie.close
     (tie.spec
-    (λ c. search needs)
-    (λ c κs. search needs)
+    (λ c. search rules)
+    (λ c κs. search rules)
     array-share-prefix-text
     (λ c. sym (length-take-le _ _ (array-share-prefix-text c.before)))
     print-requires
-    (λ c. search needs))
+    (λ c. search rules))

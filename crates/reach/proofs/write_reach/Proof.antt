@@ -1,5 +1,5 @@
 -- `write_reach` meets its contract: the report is that of the table of the input's policy.
-use Rattle.prelude.proofs.Kit.{sym, ◌∙◌, ap, subst, needs, now, length-take-le}
+use Rattle.prelude.proofs.Kit.{sym, ◌∙◌, ap, subst, rules, now, length-take-le}
 use Rattle.text.specs.Text.{AtFront}
 use Rattle.reach_table.specs.declared.ReachTable.{ReachTable}
 use Rattle.reach_table.specs.Reach.{tabled}
@@ -8,7 +8,7 @@ use Rattle.reach.proofs.write_reach.Statement.{statement}
 use Rattle.reach.proofs.write_reach.Tie as tie
 
 array-share-prefix-words : tie.Need-array-share-prefix-words
-array-share-prefix-words c = search needs
+array-share-prefix-words c = search rules
 
 returns : tie.Need-returns
 returns c =
@@ -24,10 +24,10 @@ pub write-reach-spec : {M : Type 1} → statement M
 write-reach-spec =
     tie.close
     (tie.spec
-    (λ c κs. search needs)
+    (λ c κs. search rules)
     array-share-prefix-words
     (λ c. sym (length-take-le _ _ (array-share-prefix-words c.before)))
-    (λ c κs. search needs)
-    (λ c κs. search needs)
-    (λ c. search needs)
+    (λ c κs. search rules)
+    (λ c κs. search rules)
+    (λ c. search rules)
     returns)

@@ -1,5 +1,5 @@
 -- `reach` meets its contract: what is counted so far is the count of the rows below one.
-use Rattle.prelude.proofs.Kit.{ℕ, ◌≤◌, ◌+◌, ◌-◌, zero-le, arith, Bool, ◌≡◌, ◌∙◌, ap, needs, now}
+use Rattle.prelude.proofs.Kit.{ℕ, ◌≤◌, ◌+◌, ◌-◌, zero-le, arith, Bool, ◌≡◌, ◌∙◌, ap, rules, now}
 use mir.Val.{bool_byte}
 use Rattle.prelude.specs.Sums.{count_below}
 use Rattle.prelude.proofs.Sums.{count_none, count_added, count_most}
@@ -51,10 +51,10 @@ reach-spec =
     invariant-loop
     decreases-loop
     loop-holds
-    (λ c κs. search needs)
-    (λ c. search needs)
+    (λ c κs. search rules)
+    (λ c. search rules)
     add-count
-    (λ c. search needs)
-    (λ c. search needs)
+    (λ c. search rules)
+    (λ c. search rules)
     loop-again
     returns)

@@ -1,5 +1,5 @@
 -- `reach_count` meets its contract: a policy that is not well formed is refused, and the counts of any other are answered with their sum.
-use Rattle.prelude.proofs.Kit.{ℕ, sym, ◌∙◌, arith, ap, subst, Bool, not, List, T, length, get_or, not-false, not-true, needs, now}
+use Rattle.prelude.proofs.Kit.{ℕ, sym, ◌∙◌, arith, ap, subst, Bool, not, List, T, length, get_or, not-false, not-true, rules, now}
 use Rattle.policy.specs.Given.{WellFormed}
 use Rattle.reach_table.proofs.Reaching.{reach_most, count_at, counts_long, tabled_refused, is_table_lem}
 use Rattle.reach_table.proofs.reach_count.Statement.{statement}
@@ -36,10 +36,10 @@ pub reach-count-spec : {M : Type 1} → statement M
 reach-count-spec =
     tie.close
     (tie.spec
-    (λ c κs. search needs)
-    (λ c κs. search needs)
+    (λ c κs. search rules)
+    (λ c κs. search rules)
     returns
     reach-of-each-requires
-    (λ c. search needs)
+    (λ c. search rules)
     total-requires
     returns-2)

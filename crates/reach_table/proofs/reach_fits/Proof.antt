@@ -1,5 +1,5 @@
 -- `reach_fits` meets its contract: a cell is set where nothing is in its way and the connection reaches the URL.
-use Rattle.prelude.proofs.Kit.{◌≡◌, sym, ◌∙◌, arith, true, not-false, not-true, needs, now, le-ltb, lt-ltb}
+use Rattle.prelude.proofs.Kit.{◌≡◌, sym, ◌∙◌, arith, true, not-false, not-true, rules, now, le-ltb, lt-ltb}
 use Rattle.machine.specs.Policy.{connections, well_formed}
 use Rattle.reach_table.proofs.Reaching.{cell_refused, cell_nowhere, cell_reached}
 use Rattle.reach_table.proofs.reach_fits.Statement.{statement}
@@ -35,4 +35,4 @@ returns-3 c =
     c.reaches.ensures ∙ cell_reached _ _ _ (is_formed e) (lt-ltb a.connection connections (omega (arith, t.if2.false)))
 
 pub reach-fits-spec : {M : Type 1} → statement M
-reach-fits-spec = tie.close (tie.spec (λ c κs. search needs) returns returns-2 reaches-requires returns-3)
+reach-fits-spec = tie.close (tie.spec (λ c κs. search rules) returns returns-2 reaches-requires returns-3)

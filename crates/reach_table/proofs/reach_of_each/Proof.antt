@@ -1,5 +1,5 @@
 -- `reach_of_each` meets its contract: the counts of the connections below one are in their places.
-use Rattle.prelude.proofs.Kit.{◌-◌, arith, needs}
+use Rattle.prelude.proofs.Kit.{◌-◌, arith, rules}
 use Rattle.prelude.proofs.Lists.{Filled, filling_begins, filling_goes_on, filling_ends}
 use Rattle.machine.specs.Policy.{connections}
 use Rattle.reach_table.specs.Reach.{reach}
@@ -13,7 +13,7 @@ abbrev decreases-loop : tie.decreases-loop
 decreases-loop policy urls₀ connection₀ urls connection = connections - connection
 
 loop-holds : tie.Need-loop-init invariant-loop decreases-loop
-loop-holds c = filling_begins _ _ _ (search needs)
+loop-holds c = filling_begins _ _ _ (search rules)
 
 loop-again : tie.Need-loop-preserved invariant-loop decreases-loop
 loop-again c =
@@ -33,10 +33,10 @@ reach-of-each-spec =
     invariant-loop
     decreases-loop
     loop-holds
-    (λ c κs. search needs)
-    (λ c. search needs)
-    (λ c. search needs)
-    (λ c. search needs)
-    (λ c. search needs)
+    (λ c κs. search rules)
+    (λ c. search rules)
+    (λ c. search rules)
+    (λ c. search rules)
+    (λ c. search rules)
     loop-again
     returns)

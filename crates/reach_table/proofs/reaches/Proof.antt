@@ -1,5 +1,5 @@
 -- `reaches` meets its contract: a row that is not empty is reached by the connections that fit it, and an empty one by none.
-use Rattle.prelude.proofs.Kit.{sym, ◌∙◌, needs}
+use Rattle.prelude.proofs.Kit.{sym, ◌∙◌, rules}
 use Rattle.reach_table.proofs.Reaching.{no_url, url_reached}
 use Rattle.reach_table.proofs.reaches.Statement.{statement}
 use Rattle.reach_table.proofs.reaches.Tie as tie
@@ -19,4 +19,4 @@ returns-2 : tie.Need-returns-2
 returns-2 c = no_url _ _ _ (sym c.before.is-url.ensures.0 ∙ c.if1.false)
 
 pub reaches-spec : {M : Type 1} → statement M
-reaches-spec = tie.close (tie.spec (λ c κs. search needs) fits-requires returns returns-2)
+reaches-spec = tie.close (tie.spec (λ c κs. search rules) fits-requires returns returns-2)

@@ -1,5 +1,5 @@
 -- `total` meets its contract: what is added so far is the sum of the counts below one.
-use Rattle.prelude.proofs.Kit.{ℕ, ◌≤◌, ◌+◌, ◌-◌, zero-le, arith, List, ◌≡◌, ◌∙◌, ap, get_or, length, needs, now}
+use Rattle.prelude.proofs.Kit.{ℕ, ◌≤◌, ◌+◌, ◌-◌, zero-le, arith, List, ◌≡◌, ◌∙◌, ap, get_or, length, rules, now}
 use Rattle.prelude.specs.Sums.{sum_below}
 use Rattle.prelude.proofs.Sums.{sum_none, sum_next, sum_most}
 use Rattle.machine.specs.Policy.{url_rows, connections}
@@ -52,10 +52,10 @@ total-spec =
     invariant-loop
     decreases-loop
     loop-holds
-    (λ c. search needs)
-    (λ c. search needs)
+    (λ c. search rules)
+    (λ c. search rules)
     add-all
-    (λ c. search needs)
-    (λ c. search needs)
+    (λ c. search rules)
+    (λ c. search rules)
     loop-again
     returns)

@@ -1,5 +1,5 @@
 -- `record_edges::key_maps` is safe and ends: its indices stay within what it reads and writes.
-use Rattle.prelude.proofs.Kit.{◌≤◌, ◌-◌, ◌≡◌, needs}
+use Rattle.prelude.proofs.Kit.{◌≤◌, ◌-◌, ◌≡◌, rules}
 use Rattle.record_edges.proofs.key_maps.Statement.{statement}
 use Rattle.record_edges.proofs.key_maps.Tie as tie
 
@@ -11,4 +11,4 @@ decreases-loop direction map length number bytes₀ n₀ keys₀ bytes n keys = 
 
 pub key-maps-spec : {M : Type 1} → statement M
 key-maps-spec =
-    tie.close (tie.spec invariant-loop decreases-loop (λ c. search needs) (λ c. search needs) (λ c. search needs) (λ c. search needs) (λ c. search needs) (λ c κs. search needs) (λ c. search needs) (λ c. search needs) (λ c. search needs) (λ c. search needs) (λ c. search needs))
+    tie.close (tie.spec invariant-loop decreases-loop (λ c. search rules) (λ c. search rules) (λ c. search rules) (λ c. search rules) (λ c. search rules) (λ c κs. search rules) (λ c. search rules) (λ c. search rules) (λ c. search rules) (λ c. search rules) (λ c. search rules))

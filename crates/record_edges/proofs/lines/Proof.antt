@@ -1,5 +1,5 @@
 -- `record_edges::lines` is safe and ends: its indices stay within what it reads and writes.
-use Rattle.prelude.proofs.Kit.{◌≤◌, ◌-◌, arith, ⊎_elim, needs}
+use Rattle.prelude.proofs.Kit.{◌≤◌, ◌-◌, arith, ⊎_elim, rules}
 use Rattle.record_edges.proofs.lines.Statement.{statement}
 use Rattle.record_edges.proofs.lines.Tie as tie
 
@@ -14,4 +14,4 @@ loop-again c = ⊎_elim (λ w. omega arith) (λ w. omega arith) c.if1.branch
 
 pub lines-spec : {M : Type 1} → statement M
 lines-spec =
-    tie.close (tie.spec invariant-loop decreases-loop (λ c. search needs) (λ c. search needs) (λ c. search needs) (λ c. search needs) (λ c. search needs) (λ c κs. search needs) (λ c. search needs) (λ c. search needs) (λ c. search needs) loop-again (λ c. search needs))
+    tie.close (tie.spec invariant-loop decreases-loop (λ c. search rules) (λ c. search rules) (λ c. search rules) (λ c. search rules) (λ c. search rules) (λ c κs. search rules) (λ c. search rules) (λ c. search rules) (λ c. search rules) loop-again (λ c. search rules))

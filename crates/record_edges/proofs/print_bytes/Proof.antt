@@ -1,5 +1,5 @@
 -- `record_edges::print_bytes` is safe and ends: its indices stay within what it reads and writes.
-use Rattle.prelude.proofs.Kit.{◌≤◌, ◌-◌, ◌≡◌, needs}
+use Rattle.prelude.proofs.Kit.{◌≤◌, ◌-◌, ◌≡◌, rules}
 use Rattle.record_edges.proofs.print_bytes.Statement.{statement}
 use Rattle.record_edges.proofs.print_bytes.Tie as tie
 
@@ -11,4 +11,4 @@ decreases-loop bytes i₀ i-end i = i-end - i
 
 pub print-bytes-spec : {M : Type 1} → statement M
 print-bytes-spec =
-    tie.close (tie.spec invariant-loop decreases-loop (λ c. search needs) (λ c. search needs) (λ c κs. search needs) (λ c κs. search needs) (λ c. search needs) (λ c. search needs) (λ c. search needs) (λ c. search needs))
+    tie.close (tie.spec invariant-loop decreases-loop (λ c. search rules) (λ c. search rules) (λ c κs. search rules) (λ c κs. search rules) (λ c. search rules) (λ c. search rules) (λ c. search rules) (λ c. search rules))

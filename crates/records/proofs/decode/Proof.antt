@@ -1,5 +1,5 @@
 -- `decode` meets its contract: the header says what the maps refuse, and then the length decides.
-use Rattle.prelude.proofs.Kit.{◌≡◌, sym, ◌∙◌, ap, ap₂, needs, now, length}
+use Rattle.prelude.proofs.Kit.{◌≡◌, sym, ◌∙◌, ap, ap₂, rules, now, length}
 use Rattle.prelude.specs.Refusals.{accepted}
 use Rattle.records.specs.declared.Record.{Record}
 use Rattle.records.specs.declared.header.Header.{Header}
@@ -55,4 +55,4 @@ returns-3 c =
 
 pub decode-spec : {M : Type 1} → statement M
 decode-spec =
-    tie.close (tie.spec (λ c κs. search needs) (λ c κs. search needs) returns (λ c κs. search needs) returns-2 read-requires returns-3)
+    tie.close (tie.spec (λ c κs. search rules) (λ c κs. search rules) returns (λ c κs. search rules) returns-2 read-requires returns-3)

@@ -1,5 +1,5 @@
 -- `decode_first` meets its contract: the first record has the header of the bytes, and as many bytes as it calls for are the record.
-use Rattle.prelude.proofs.Kit.{ℕ, arith, ◌≡◌, sym, ◌∙◌, ap, ap₂, needs, now, length, take, length-take-le}
+use Rattle.prelude.proofs.Kit.{ℕ, arith, ◌≡◌, sym, ◌∙◌, ap, ap₂, rules, now, length, take, length-take-le}
 use Rattle.prelude.specs.Refusals.{accepted}
 use Rattle.records.specs.declared.Record.{Record}
 use Rattle.records.specs.declared.header.Header.{Header}
@@ -66,4 +66,4 @@ returns-3 c =
 
 pub decode-first-spec : {M : Type 1} → statement M
 decode-first-spec =
-    tie.close (tie.spec (λ c κs. search needs) (λ c κs. search needs) returns (λ c κs. search needs) returns-2 slice-aggregate-read read-requires returns-3)
+    tie.close (tie.spec (λ c κs. search rules) (λ c κs. search rules) returns (λ c κs. search rules) returns-2 slice-aggregate-read read-requires returns-3)

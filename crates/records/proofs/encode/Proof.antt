@@ -1,5 +1,5 @@
 -- `encode` meets its contract: at each return the tests that led there say what encoding answers.
-use Rattle.prelude.proofs.Kit.{◌≤◌, arith, true, ◌≡◌, sym, ◌∙◌, subst, needs, not-false, not-true, now, T, length}
+use Rattle.prelude.proofs.Kit.{◌≤◌, arith, true, ◌≡◌, sym, ◌∙◌, subst, rules, not-false, not-true, now, T, length}
 use Rattle.records.specs.Layout.{longest}
 use Rattle.records.specs.Codec.{carriable}
 use Rattle.records.proofs.Encoding.{no_room_lem, not_carriable_lem, written_whole, size_longest, known}
@@ -45,4 +45,4 @@ returns-3 c =
 
 pub encode-spec : {M : Type 1} → statement M
 encode-spec =
-    tie.close (tie.spec (λ c κs. search needs) returns (λ c κs. search needs) returns-2 write-requires (λ c. search needs) returns-3)
+    tie.close (tie.spec (λ c κs. search rules) returns (λ c κs. search rules) returns-2 write-requires (λ c. search rules) returns-3)

@@ -1,5 +1,5 @@
 -- `run` meets its contract: what was done and what remains are what the definition does.
-use Rattle.prelude.proofs.Kit.{◌-◌, zero-le, arith, sym, ◌∙◌, refl, needs, now}
+use Rattle.prelude.proofs.Kit.{◌-◌, zero-le, arith, sym, ◌∙◌, refl, rules, now}
 use Rattle.machine.specs.Scripts.{step_limit}
 use Rattle.scripts.proofs.Running.{Running, goes_on_lem, ends, spent}
 use Rattle.scripts.proofs.run.Statement.{statement}
@@ -13,7 +13,7 @@ abbrev decreases-loop : tie.decreases-loop
 decreases-loop policy state₀ code connection page value out₀ position₀ registers₀ steps₀ state out position registers steps = step_limit - steps
 
 loop-holds : tie.Need-loop-init invariant-loop decreases-loop
-loop-holds c = record { below = zero-le; four = refl; long = search needs; same = refl; room = zero-le; remains = refl }
+loop-holds c = record { below = zero-le; four = refl; long = search rules; same = refl; room = zero-le; remains = refl }
 
 abbrev start : tie.At-loop invariant-loop decreases-loop → tie.Start invariant-loop decreases-loop
 start l = l.before.before.before.before.before
@@ -56,4 +56,4 @@ returns-2 c =
 
 pub run_spec : {M : Type 1} → statement M
 run_spec =
-    tie.close (tie.spec invariant-loop decreases-loop loop-holds same_length same-length-2 returns lent (λ c κs. search needs) (λ c. search needs) (λ c. search needs) loop-again same-length-3 same-length-4 returns-2)
+    tie.close (tie.spec invariant-loop decreases-loop loop-holds same_length same-length-2 returns lent (λ c κs. search rules) (λ c. search rules) (λ c. search rules) loop-again same-length-3 same-length-4 returns-2)

@@ -1,5 +1,5 @@
 -- `tally` meets what it asks of `print`: what was written at the front of the text is all that is printed of the list.
-use Rattle.prelude.proofs.Kit.{ℕ, List, sym, needs, now, take, length-take-le}
+use Rattle.prelude.proofs.Kit.{ℕ, List, sym, rules, now, take, length-take-le}
 use Rattle.text.proofs.Writing.{front_within, front_is}
 use Rattle.tally.specs.Report.{printed}
 use Rattle.tally.proofs.tally.Statement.{statement}
@@ -23,9 +23,9 @@ tally-spec =
     tie.close
     (tie.spec
     (λ c. sym (length-take-le _ _ c.before.before.requires.1))
-    (λ c. search needs)
-    (λ c κs. search needs)
+    (λ c. search rules)
+    (λ c κs. search rules)
     array-share-prefix-text
     (λ c. sym (length-take-le _ _ (array-share-prefix-text c.before)))
     print-requires
-    (λ c. search needs))
+    (λ c. search rules))

@@ -1,5 +1,5 @@
 -- `write_decimal` meets its contract: the digits of a tenth, and one more. The measure is the number.
-use Rattle.prelude.proofs.Kit.{ℕ, ◌<◌, ◌+◌, ◌/◌, arith, ◌≡◌, refl, ap, needs, length}
+use Rattle.prelude.proofs.Kit.{ℕ, ◌<◌, ◌+◌, ◌/◌, arith, ◌≡◌, refl, ap, rules, length}
 use borrow.Fn.Kinds.{In}
 use borrow.Fn.PlainCycle.{Measures, is, falls, and}
 use Rattle.text.specs.Text.{decimal}
@@ -30,7 +30,7 @@ module _ (t : ℕ) where
 
   longer : (c : lts.Else1 (below t, write-decimal.Post) (given t) write-decimal.Post)
       → let n = c.before.before.args.n in length (decimal n) ≡ length (decimal (n / 10)) + 1
-  longer c = decimal_longer c.before.before.args.n c.if1.false (search needs)
+  longer c = decimal_longer c.before.before.args.n c.if1.false (search rules)
 
   write_decimal_requires : lts.Need-write-decimal-requires (below t, write-decimal.Post) (given t) write-decimal.Post
   write_decimal_requires c κs =
@@ -47,10 +47,10 @@ module _ (t : ℕ) where
 
   returns_2 : lts.Need-returns-2 (below t, write-decimal.Post) (given t) write-decimal.Post
   returns_2 c =
-      rw (decimal_more c.before.before.before.before.before.before.args.n c.before.before.before.before.if1.false (search needs))
+      rw (decimal_more c.before.before.before.before.before.before.args.n c.before.before.before.before.if1.false (search rules))
       (wrote_byte c.before.before.write-decimal.ensures _ (slice_write_text_2 c))
 
 pub +write-decimal-spec : {M : Type 1} → statement M
 +write-decimal-spec = close μ λ t. lts.spec (below t, write-decimal.Post) (given t) write-decimal.Post
-    (λ c. search needs) (λ c. search needs) (slice_write_text t) (λ c. search needs) (λ c. search needs)
-    (returns t) (write_decimal_requires t) (λ c. search needs) (λ c. search needs) (slice_write_text_2 t) (add_result_2 t) (λ c. search needs) (returns_2 t)
+    (λ c. search rules) (λ c. search rules) (slice_write_text t) (λ c. search rules) (λ c. search rules)
+    (returns t) (write_decimal_requires t) (λ c. search rules) (λ c. search rules) (slice_write_text_2 t) (add_result_2 t) (λ c. search rules) (returns_2 t)

@@ -1,5 +1,5 @@
 -- `hex_digit` meets its contract.
-use Rattle.prelude.proofs.Kit.{needs, le-ltb, lt-ltb}
+use Rattle.prelude.proofs.Kit.{rules, le-ltb, lt-ltb}
 use Rattle.text.proofs.hex_digit.Statement.{statement}
 use Rattle.text.proofs.hex_digit.Tie as tie
 
@@ -10,4 +10,4 @@ returns-2 : tie.Need-returns-2
 returns-2 c = simp (le-ltb _ _ c.if1.false)
 
 pub hex-digit-spec : {M : Type 1} → statement M
-hex-digit-spec = tie.close (tie.spec (λ c. search needs) (λ c. search needs) returns returns-2)
+hex-digit-spec = tie.close (tie.spec (λ c. search rules) (λ c. search rules) returns returns-2)

@@ -1,5 +1,5 @@
 -- `write_bytes` meets its contract: what is written from an index on makes the whole.
-use Rattle.prelude.proofs.Kit.{ℕ, ◌≤◌, ◌+◌, ◌-◌, add-zero, arith, ◌≡◌, sym, ◌∙◌, refl, ap, needs, now, length, drop, length-set, sets}
+use Rattle.prelude.proofs.Kit.{ℕ, ◌≤◌, ◌+◌, ◌-◌, add-zero, arith, ◌≡◌, sym, ◌∙◌, refl, ap, rules, now, length, drop, length-set, sets}
 use Rattle.text.proofs.Writing.{copy_goes_on, copy_ends}
 use Rattle.text.proofs.write_bytes.Statement.{statement}
 use Rattle.text.proofs.write_bytes.Tie as tie
@@ -19,7 +19,7 @@ loop-again c =
     let s = c.before.before in
     let a = s.before.args in
     let inv = s.loop.invariant in (
-      search needs,
+      search rules,
       refl,
       simp length-set inv.2,
       sym (copy_goes_on s.loop.text (now a.bytes) a.at s.loop.i c.before.loop-test.true) ∙ inv.3,
@@ -29,8 +29,8 @@ returns : tie.Need-returns invariant-loop decreases-loop
 returns c =
     let s = c.before in
     let a = s.before.args in
-    record { place = refl; within = search needs; written = sym (copy_ends s.loop.text (now a.bytes) a.at s.loop.i (omega arith)) ∙ s.loop.invariant.3 }
+    record { place = refl; within = search rules; written = sym (copy_ends s.loop.text (now a.bytes) a.at s.loop.i (omega arith)) ∙ s.loop.invariant.3 }
 
 pub write-bytes-spec : {M : Type 1} → statement M
 write-bytes-spec =
-    tie.close (tie.spec invariant-loop decreases-loop loop-holds (λ c. search needs) (λ c. search needs) (λ c. search needs) (λ c. search needs) (λ c. search needs) loop-again (λ c. search needs) (λ c. search needs) returns)
+    tie.close (tie.spec invariant-loop decreases-loop loop-holds (λ c. search rules) (λ c. search rules) (λ c. search rules) (λ c. search rules) (λ c. search rules) loop-again (λ c. search rules) (λ c. search rules) returns)

@@ -1,5 +1,5 @@
 -- `write_hex_byte` meets its contract.
-use Rattle.prelude.proofs.Kit.{add-one, arith, refl, needs, length-set}
+use Rattle.prelude.proofs.Kit.{add-one, arith, refl, rules, length-set}
 use Rattle.text.proofs.write_hex_byte.Statement.{statement}
 use Rattle.text.proofs.write_hex_byte.Tie as tie
 
@@ -9,8 +9,8 @@ slice-write-text-2 c = simp length-set (omega arith)
 returns : tie.Need-returns
 returns c =
     let at = c.before.before.before.args.at in
-    rw (← c.hex-digit2.ensures, ← c.before.hex-digit.ensures, add-one at) (record { place = refl; within = search needs; written = refl })
+    rw (← c.hex-digit2.ensures, ← c.before.hex-digit.ensures, add-one at) (record { place = refl; within = search rules; written = refl })
 
 pub write-hex-byte-spec : {M : Type 1} → statement M
 write-hex-byte-spec =
-    tie.close (tie.spec (λ c κs. search needs) (λ c. search needs) (λ c κs. search needs) (λ c. search needs) slice-write-text-2 (λ c. search needs) (λ c. search needs) returns)
+    tie.close (tie.spec (λ c κs. search rules) (λ c. search rules) (λ c κs. search rules) (λ c. search rules) slice-write-text-2 (λ c. search rules) (λ c. search rules) returns)

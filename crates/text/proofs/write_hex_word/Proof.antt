@@ -1,5 +1,5 @@
 -- `write_hex_word` meets its contract: the digits of its four bytes, one after another.
-use Rattle.prelude.proofs.Kit.{needs}
+use Rattle.prelude.proofs.Kit.{rules}
 use Rattle.text.proofs.Writing.{wrote_then}
 use Rattle.text.proofs.write_hex_word.Statement.{statement}
 use Rattle.text.proofs.write_hex_word.Tie as tie
@@ -17,13 +17,13 @@ pub write-hex-word-spec : {M : Type 1} → statement M
 write-hex-word-spec =
     tie.close
     (tie.spec
-    (λ c. search needs)
-    (λ c κs. search needs)
-    (λ c. search needs)
-    (λ c κs. search needs)
-    (λ c. search needs)
-    (λ c κs. search needs)
-    (λ c. search needs)
-    (λ c κs. search needs)
-    (λ c. search needs)
+    (λ c. search rules)
+    (λ c κs. search rules)
+    (λ c. search rules)
+    (λ c κs. search rules)
+    (λ c. search rules)
+    (λ c κs. search rules)
+    (λ c. search rules)
+    (λ c κs. search rules)
+    (λ c. search rules)
     returns)

@@ -1,5 +1,5 @@
 -- `write_number` meets its contract: the digits, and one byte more.
-use Rattle.prelude.proofs.Kit.{◌<◌, arith, ◌∷◌, [], needs, length, length-append}
+use Rattle.prelude.proofs.Kit.{◌<◌, arith, ◌∷◌, [], rules, length, length-append}
 use Rattle.text.specs.Text.{decimal}
 use Rattle.text.proofs.Writing.{wrote_byte}
 use Rattle.text.proofs.write_number.Statement.{statement}
@@ -21,4 +21,4 @@ returns : tie.Need-returns
 returns c = wrote_byte c.before.before.write-decimal.ensures _ (room c)
 
 pub write-number-spec : {M : Type 1} → statement M
-write-number-spec = tie.close (tie.spec write-decimal-requires room (λ c. omega (arith, room c, c.before.before.write-decimal.auto.0)) (λ c. search needs) returns)
+write-number-spec = tie.close (tie.spec write-decimal-requires room (λ c. omega (arith, room c, c.before.before.write-decimal.auto.0)) (λ c. search rules) returns)

@@ -1,5 +1,5 @@
 -- `write_pair` meets its contract: one number after the other, each with room for ten digits and the byte that ends it.
-use Rattle.prelude.proofs.Kit.{arith, needs}
+use Rattle.prelude.proofs.Kit.{arith, rules}
 use Rattle.text.proofs.Decimals.{number_room}
 use Rattle.text.proofs.Writing.{wrote_then}
 use Rattle.text.proofs.write_pair.Statement.{statement}
@@ -17,4 +17,4 @@ returns : tie.Need-returns
 returns c = wrote_then c.before.before.before.before.before.before.write-number.ensures c.before.before.write-number2.ensures
 
 pub write-pair-spec : {M : Type 1} → statement M
-write-pair-spec = tie.close (tie.spec write-number-requires write-number-requires-2 (λ c. search needs) returns)
+write-pair-spec = tie.close (tie.spec write-number-requires write-number-requires-2 (λ c. search rules) returns)

@@ -1,5 +1,5 @@
 -- `count` meets its contract: what is counted and what is left make the whole, and at each return the tests say what is answered.
-use Rattle.prelude.proofs.Kit.{ℕ, ◌≤◌, ◌<◌, ◌+◌, ◌-◌, ◌*◌, arith, true, List, ◌≡◌, sym, ◌∙◌, ap, needs, now, length, get_or}
+use Rattle.prelude.proofs.Kit.{ℕ, ◌≤◌, ◌<◌, ◌+◌, ◌-◌, ◌*◌, arith, true, List, ◌≡◌, sym, ◌∙◌, ap, rules, now, length, get_or}
 use Rattle.prelude.proofs.Kit.{drop, set, subst, not-false, not-true}
 use Rattle.records.specs.declared.Direction.TheVariants.{Request}
 use Rattle.records.specs.declared.First.{First}
@@ -68,7 +68,7 @@ abbrev counting : tie.After-count-keys invariant-loop decreases-loop → tie.Els
 counting c = c.before.before.before.before
 
 its_cookies : (c : tie.After-count-keys invariant-loop decreases-loop) → c.count-keys.result ≡ carried (request (counting c)).fields
-its_cookies c = c.count-keys.ensures.0 ∙ ones_carried (request (counting c)).fields (search needs)
+its_cookies c = c.count-keys.ensures.0 ∙ ones_carried (request (counting c)).fields (search rules)
 
 -- ---- the needs
 
@@ -119,16 +119,16 @@ count_spec =
     invariant-loop
     decreases-loop
     loop-holds
-    (λ c. search needs)
-    (λ c. search needs)
-    (λ c. search needs)
-    (λ c κs. search needs)
-    (λ c κs. search needs)
+    (λ c. search rules)
+    (λ c. search rules)
+    (λ c. search rules)
+    (λ c κs. search rules)
+    (λ c κs. search rules)
     returns
-    (λ c κs. search needs)
-    (λ c κs. search needs)
+    (λ c κs. search rules)
+    (λ c κs. search rules)
     returns-2
-    (λ c. search needs)
+    (λ c. search rules)
     (λ c. omega (arith, url c.before))
     (λ c. url c.before)
     (λ c. omega (arith, (small c.before).0, short (loop c.before)))
@@ -138,7 +138,7 @@ count_spec =
     (λ c. omega (arith, (bytes c.before.before.before).1, c.if3.true))
     (λ c. omega (arith, (bytes c.before.before.before).1, c.if3.true))
     loop-again
-    (λ c κs. search needs)
+    (λ c κs. search rules)
     (λ c. omega (arith, c.count-keys.ensures.1))
     (λ c. omega (arith, url (counting c)))
     (λ c. url (counting c))

@@ -1,5 +1,5 @@
 -- `in_range` meets its contract.
-use Rattle.prelude.proofs.Kit.{and_assoc, ltb, needs}
+use Rattle.prelude.proofs.Kit.{and_assoc, ltb, rules}
 use Rattle.machine.specs.Policy.{url_rows, is_connection}
 use Rattle.machine.specs.Scripts.{is_script}
 use Rattle.usage.proofs.in_range.Statement.{statement}
@@ -11,4 +11,4 @@ returns c =
     and_assoc (ltb r.url url_rows) (is_connection r.connection) (is_script r.script)
 
 pub in-range-spec : {M : Type 1} → statement M
-in-range-spec = tie.close (tie.spec (λ c. search needs) (λ c. search needs) (λ c. search needs) returns)
+in-range-spec = tie.close (tie.spec (λ c. search rules) (λ c. search rules) (λ c. search rules) returns)

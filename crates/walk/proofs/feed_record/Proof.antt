@@ -1,5 +1,5 @@
 -- `walk::feed_record` is safe: the monitor counts no more bytes than the output has.
-use Rattle.prelude.proofs.Kit.{ap, needs}
+use Rattle.prelude.proofs.Kit.{ap, rules}
 use lib.Dec.{lit≤}
 use Rattle.machine.specs.Machine.{Fed}
 use Rattle.machine.proofs.Refusals.{past_is_kept}
@@ -13,4 +13,4 @@ print-answer-requires c κs =
     (rw (ap (λ (f : Fed). f.bytes) call.ensures, long) (past_is_kept _ _ _ _ _).0, rw long (lit≤ tt))
 
 pub feed-record-spec : {M : Type 1} → statement M
-feed-record-spec = tie.close (tie.spec (λ c. search needs) (λ c κs. search needs) (λ c. search needs) print-answer-requires (λ c. search needs) (λ c. search needs))
+feed-record-spec = tie.close (tie.spec (λ c. search rules) (λ c κs. search rules) (λ c. search rules) print-answer-requires (λ c. search rules) (λ c. search rules))

@@ -1,5 +1,5 @@
 -- `walk::feed_records` is safe and ends: each record is within the input and counted once, and the next begins after it.
-use Rattle.prelude.proofs.Kit.{◌≤◌, ◌<◌, ◌+◌, ◌-◌, arith, ◌≡◌, sym, ◌∙◌, needs, now, length}
+use Rattle.prelude.proofs.Kit.{◌≤◌, ◌<◌, ◌+◌, ◌-◌, arith, ◌≡◌, sym, ◌∙◌, rules, now, length}
 use Rattle.transcript.specs.Input.{records_at, input_limit}
 use Rattle.transcript.proofs.Inputs.{record_within, counted_more}
 use Rattle.walk.proofs.feed_records.Statement.{statement}
@@ -58,4 +58,4 @@ loop-again c =
 
 pub feed-records-spec : {M : Type 1} → statement M
 feed-records-spec =
-    tie.close (tie.spec invariant-loop decreases-loop (λ c. search needs) (λ c. search needs) (λ c. search needs) (λ c. search needs) (λ c κs. search needs) (λ c. search needs) add-end add-nth add-nth-2 (λ c. search needs) (λ c. search needs) part-feed-record-end (λ c κs. search needs) counted-requires loop-less loop-again (λ c. search needs) (λ c κs. search needs) (λ c. search needs) (λ c. search needs))
+    tie.close (tie.spec invariant-loop decreases-loop (λ c. search rules) (λ c. search rules) (λ c. search rules) (λ c. search rules) (λ c κs. search rules) (λ c. search rules) add-end add-nth add-nth-2 (λ c. search rules) (λ c. search rules) part-feed-record-end (λ c κs. search rules) counted-requires loop-less loop-again (λ c. search rules) (λ c κs. search rules) (λ c. search rules) (λ c. search rules))

@@ -1,5 +1,5 @@
 -- `walk::print_answer` is safe: what is sent is within the output, there is room for its lines, and what is printed is within the text.
-use Rattle.prelude.proofs.Kit.{arith, sym, needs, now, take, length-take-le}
+use Rattle.prelude.proofs.Kit.{arith, sym, rules, now, take, length-take-le}
 use Rattle.transcript.specs.Lines.{record_lines}
 use Rattle.text.proofs.Writing.{front_within}
 use Rattle.walk.proofs.print_answer.Statement.{statement}
@@ -25,4 +25,4 @@ slice-aggregate-print c = sym (length-take-le _ _ (array-share-prefix-text c.bef
 
 pub print-answer-spec : {M : Type 1} → statement M
 print-answer-spec =
-    tie.close (tie.spec (λ c. search needs) (λ c. search needs) slice-aggregate-write-record-lines-2 write-record-lines-requires array-share-prefix-text slice-aggregate-print (λ c κs. search needs) (λ c. search needs))
+    tie.close (tie.spec (λ c. search rules) (λ c. search rules) slice-aggregate-write-record-lines-2 write-record-lines-requires array-share-prefix-text slice-aggregate-print (λ c κs. search rules) (λ c. search rules))

@@ -1,5 +1,5 @@
 -- `walk::print_last` is safe: what is printed is within the text.
-use Rattle.prelude.proofs.Kit.{sym, needs, length-take-le}
+use Rattle.prelude.proofs.Kit.{sym, rules, length-take-le}
 use Rattle.transcript.specs.Lines.{last_line}
 use Rattle.text.proofs.Writing.{front_within}
 use Rattle.walk.proofs.print_last.Statement.{statement}
@@ -15,4 +15,4 @@ slice-aggregate-print : tie.Need-slice-aggregate-print
 slice-aggregate-print c = sym (length-take-le _ _ (array-share-prefix-text c.before))
 
 pub print-last-spec : {M : Type 1} → statement M
-print-last-spec = tie.close (tie.spec (λ c. search needs) (λ c κs. search needs) array-share-prefix-text slice-aggregate-print (λ c κs. search needs) (λ c. search needs))
+print-last-spec = tie.close (tie.spec (λ c. search rules) (λ c κs. search rules) array-share-prefix-text slice-aggregate-print (λ c κs. search rules) (λ c. search rules))

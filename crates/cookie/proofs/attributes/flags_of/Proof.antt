@@ -1,5 +1,5 @@
 -- `attributes::flags_of` meets its contract: each attribute in turn raises its flag.
-use Rattle.prelude.proofs.Kit.{ℕ, ◌≤◌, ◌+◌, ◌-◌, arith, ◌||◌, List, ◌≡◌, sym, ◌∙◌, ap, subst, needs, now, length, take, drop, length-drop, length-take-le}
+use Rattle.prelude.proofs.Kit.{ℕ, ◌≤◌, ◌+◌, ◌-◌, arith, ◌||◌, List, ◌≡◌, sym, ◌∙◌, ap, subst, rules, now, length, take, drop, length-drop, length-take-le}
 use Rattle.prelude.proofs.Lists.{rest_is}
 use Rattle.cookie.specs.Parts.{before}
 use Rattle.cookie.specs.SetCookie.{semicolon, is_called, secure_word, http_only_word}
@@ -69,15 +69,15 @@ flags-of-spec =
     (tie.spec
     invariant-loop
     decreases-loop
-    (λ c κs. search needs)
+    (λ c κs. search rules)
     loop-holds
-    (λ c. search needs)
-    (λ c. search needs)
-    (λ c. search needs)
-    (λ c. search needs)
-    (λ c κs. search needs)
+    (λ c. search rules)
+    (λ c. search rules)
+    (λ c. search rules)
+    (λ c. search rules)
+    (λ c κs. search rules)
     slice-aggregate-with-attribute
-    (λ c κs. search needs)
+    (λ c κs. search rules)
     add_at
     loop-less
     loop-again

@@ -1,5 +1,5 @@
 -- `attributes::with_attribute` meets its contract: the attribute's name is compared with both words.
-use Rattle.prelude.proofs.Kit.{Bool, ◌||◌, ◌≡◌, sym, ◌∙◌, ap, now, length-take-le, needs}
+use Rattle.prelude.proofs.Kit.{Bool, ◌||◌, ◌≡◌, sym, ◌∙◌, ap, now, length-take-le, rules}
 use Rattle.cookie.specs.Parts.{trim, is_word}
 use Rattle.cookie.specs.SetCookie.{equals, secure_word, http_only_word, attribute_name}
 use Rattle.cookie.proofs.Finding.{found_within, found_front}
@@ -28,11 +28,11 @@ pub with-attribute-spec : {M : Type 1} → statement M
 with-attribute-spec =
     tie.close
     (tie.spec
-    (λ c κs. search needs)
+    (λ c κs. search rules)
     slice-aggregate-trim
-    (λ c κs. search needs)
-    (λ c. search needs)
-    (λ c κs. search needs)
-    (λ c. search needs)
-    (λ c κs. search needs)
+    (λ c κs. search rules)
+    (λ c. search rules)
+    (λ c κs. search rules)
+    (λ c. search rules)
+    (λ c κs. search rules)
     returns)

@@ -1,5 +1,5 @@
 -- `names::key_name` meets its contract: the key's 16 bytes, up to the first zero.
-use Rattle.prelude.proofs.Kit.{ℕ, ◌+◌, ◌-◌, ◌*◌, arith, List, ◌≡◌, sym, ◌∙◌, ap, needs, now, length, take, drop, length-take-le}
+use Rattle.prelude.proofs.Kit.{ℕ, ◌+◌, ◌-◌, ◌*◌, arith, List, ◌≡◌, sym, ◌∙◌, ap, rules, now, length, take, drop, length-take-le}
 use lib.ListN.{length-take}
 use Rattle.cookie.specs.Parts.{before}
 use Rattle.cookie.specs.Import.{name_bytes}
@@ -34,11 +34,11 @@ pub key-name-spec : {M : Type 1} → statement M
 key-name-spec =
     tie.close
     (tie.spec
-    (λ c. search needs)
-    (λ c. search needs)
-    (λ c. search needs)
-    (λ c. search needs)
-    (λ c. search needs)
-    (λ c κs. search needs)
+    (λ c. search rules)
+    (λ c. search rules)
+    (λ c. search rules)
+    (λ c. search rules)
+    (λ c. search rules)
+    (λ c κs. search rules)
     slice-aggregate-result
     returns)

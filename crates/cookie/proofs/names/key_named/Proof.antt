@@ -1,5 +1,5 @@
 -- `names::key_named` meets its contract: the first key whose name it is.
-use Rattle.prelude.proofs.Kit.{ℕ, ◌-◌, List, ◌≡◌, sym, ◌∙◌, ap, needs, now}
+use Rattle.prelude.proofs.Kit.{ℕ, ◌-◌, List, ◌≡◌, sym, ◌∙◌, ap, rules, now}
 use Rattle.prelude.specs.Lists.{same_numbers}
 use Rattle.machine.specs.Policy.{host_keys}
 use Rattle.cookie.specs.Import.{is_named, key_named}
@@ -49,9 +49,9 @@ key-named-spec =
     decreases-loop
     loop-holds
     key-name-requires
-    (λ c κs. search needs)
+    (λ c κs. search rules)
     returns
-    (λ c. search needs)
-    (λ c. search needs)
+    (λ c. search rules)
+    (λ c. search rules)
     loop-again
     returns-2)

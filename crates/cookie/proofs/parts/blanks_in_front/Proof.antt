@@ -1,5 +1,5 @@
 -- `parts::blanks_in_front` meets its contract: it stops at the first byte that is no blank.
-use Rattle.prelude.proofs.Kit.{◌-◌, sym, ◌∙◌, needs, not-true, not-false, length}
+use Rattle.prelude.proofs.Kit.{◌-◌, sym, ◌∙◌, rules, not-true, not-false, length}
 use Rattle.cookie.proofs.Trimming.{Skipping, skipping_begins, skipping_stops, skipping_goes_on, skipping_ends}
 use Rattle.cookie.proofs.parts.blanks_in_front.Statement.{statement}
 use Rattle.cookie.proofs.parts.blanks_in_front.Tie as tie
@@ -35,10 +35,10 @@ blanks-in-front-spec =
     invariant-loop
     decreases-loop
     loop-holds
-    (λ c. search needs)
-    (λ c κs. search needs)
+    (λ c. search rules)
+    (λ c κs. search rules)
     returns
-    (λ c. search needs)
-    (λ c. search needs)
+    (λ c. search rules)
+    (λ c. search rules)
     loop-again
     returns-2)

@@ -1,5 +1,5 @@
 -- `parts::find` meets its contract: every byte that is passed is another.
-use Rattle.prelude.proofs.Kit.{◌≤◌, ◌-◌, arith, needs}
+use Rattle.prelude.proofs.Kit.{◌≤◌, ◌-◌, arith, rules}
 use Rattle.cookie.specs.Parts.{Past}
 use Rattle.cookie.proofs.Finding.{past_then, past_one}
 use Rattle.cookie.proofs.parts.find.Statement.{statement}
@@ -23,10 +23,10 @@ find_spec =
     (tie.spec
     invariant-loop
     decreases-loop
-    (λ c. search needs)
-    (λ c. search needs)
-    (λ c. search needs)
-    (λ c. search needs)
-    (λ c. search needs)
+    (λ c. search rules)
+    (λ c. search rules)
+    (λ c. search rules)
+    (λ c. search rules)
+    (λ c. search rules)
     loop-again
-    (λ c. search needs))
+    (λ c. search rules))

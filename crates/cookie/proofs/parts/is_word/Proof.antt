@@ -1,5 +1,5 @@
 -- `parts::is_word` meets its contract: the small letters of a text are compared with those of the word.
-use Rattle.prelude.proofs.Kit.{ℕ, ◌<◌, ◌-◌, arith, List, map, ◌≡◌, sym, ◌∙◌, needs, now, length, get_or}
+use Rattle.prelude.proofs.Kit.{ℕ, ◌<◌, ◌-◌, arith, List, map, ◌≡◌, sym, ◌∙◌, rules, now, length, get_or}
 use Rattle.cookie.specs.Parts.{lower, is_word}
 use Rattle.cookie.proofs.Comparing.{Comparing, other_length, comparing_begins, comparing_stops, comparing_goes_on, comparing_ends, lowered_at, lowered_long}
 use Rattle.cookie.proofs.parts.is_word.Statement.{statement}
@@ -55,11 +55,11 @@ is-word-spec =
     decreases-loop
     returns
     loop-holds
-    (λ c. search needs)
-    (λ c κs. search needs)
-    (λ c. search needs)
+    (λ c. search rules)
+    (λ c κs. search rules)
+    (λ c. search rules)
     returns-2
-    (λ c. search needs)
-    (λ c. search needs)
+    (λ c. search rules)
+    (λ c. search rules)
     loop-again
     returns-3)

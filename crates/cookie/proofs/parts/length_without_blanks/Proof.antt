@@ -1,5 +1,5 @@
 -- `parts::length_without_blanks` meets its contract: it stops behind the last byte that is no blank.
-use Rattle.prelude.proofs.Kit.{sym, ◌∙◌, needs, not-true, not-false}
+use Rattle.prelude.proofs.Kit.{sym, ◌∙◌, rules, not-true, not-false}
 use Rattle.cookie.specs.Parts.{is_blank}
 use Rattle.cookie.proofs.Trimming.{Shortening, shortening_begins, shortening_stops, shortening_goes_on, shortening_ends}
 use Rattle.cookie.proofs.parts.length_without_blanks.Statement.{statement}
@@ -36,11 +36,11 @@ length-without-blanks-spec =
     invariant-loop
     decreases-loop
     loop-holds
-    (λ c. search needs)
-    (λ c. search needs)
-    (λ c κs. search needs)
+    (λ c. search rules)
+    (λ c. search rules)
+    (λ c κs. search rules)
     returns
-    (λ c. search needs)
-    (λ c. search needs)
+    (λ c. search rules)
+    (λ c. search rules)
     loop-again
     returns-2)

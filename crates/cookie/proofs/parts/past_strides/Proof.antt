@@ -1,5 +1,5 @@
 -- `parts::past_strides` meets its contract: every stride that is passed lacks the byte.
-use Rattle.prelude.proofs.Kit.{◌-◌, arith, sym, ◌∙◌, needs, length}
+use Rattle.prelude.proofs.Kit.{◌-◌, arith, sym, ◌∙◌, rules, length}
 use Rattle.cookie.specs.Parts.{stride, Past}
 use Rattle.cookie.proofs.Finding.{past_none, past_then, past_some}
 use Rattle.cookie.proofs.parts.past_strides.Statement.{statement}
@@ -43,7 +43,7 @@ past-strides-spec =
     sub-loop
     stride-has-requires
     returns
-    (λ c. search needs)
-    (λ c. search needs)
+    (λ c. search rules)
+    (λ c. search rules)
     loop-again
     returns-2)

@@ -1,5 +1,5 @@
 -- `parts::position` meets its contract: the first bytes one by one, then strides, then what is left.
-use Rattle.prelude.proofs.Kit.{arith, needs}
+use Rattle.prelude.proofs.Kit.{arith, rules}
 use Rattle.cookie.proofs.Finding.{past_then, past_to_it, past_to_stop}
 use Rattle.cookie.proofs.parts.position.Statement.{statement}
 use Rattle.cookie.proofs.parts.position.Tie as tie
@@ -21,10 +21,10 @@ pub position-spec : {M : Type 1} → statement M
 position-spec =
     tie.close
     (tie.spec
-    (λ c κs. search needs)
+    (λ c κs. search rules)
     returns
-    (λ c κs. search needs)
+    (λ c κs. search rules)
     returns-2
-    (λ c κs. search needs)
-    (λ c κs. search needs)
+    (λ c κs. search rules)
+    (λ c κs. search rules)
     returns-3)

@@ -1,5 +1,5 @@
 -- `parts::same` meets its contract: texts of one length are compared byte by byte.
-use Rattle.prelude.proofs.Kit.{◌-◌, sym, needs, now, length}
+use Rattle.prelude.proofs.Kit.{◌-◌, sym, rules, now, length}
 use Rattle.cookie.proofs.Comparing.{Comparing, other_length, comparing_begins, comparing_stops, comparing_goes_on, comparing_ends}
 use Rattle.cookie.proofs.parts.same.Statement.{statement}
 use Rattle.cookie.proofs.parts.same.Tie as tie
@@ -33,10 +33,10 @@ same_spec =
     decreases-loop
     returns
     loop-holds
-    (λ c. search needs)
-    (λ c. search needs)
+    (λ c. search rules)
+    (λ c. search rules)
     returns-2
-    (λ c. search needs)
-    (λ c. search needs)
+    (λ c. search rules)
+    (λ c. search rules)
     loop-again
     returns-3)

@@ -1,5 +1,5 @@
 -- `parts::stride_has` meets its contract: whether it stands among the bytes that were looked at.
-use Rattle.prelude.proofs.Kit.{ℕ, ◌≤◌, ◌-◌, arith, ◌≡◌, ◌∙◌, ap, needs, now, take, drop}
+use Rattle.prelude.proofs.Kit.{ℕ, ◌≤◌, ◌-◌, arith, ◌≡◌, ◌∙◌, ap, rules, now, take, drop}
 use Rattle.cookie.specs.Parts.{stride, has}
 use Rattle.cookie.proofs.Finding.{none_looked_at, looked_at_more}
 use Rattle.cookie.proofs.parts.stride_has.Statement.{statement}
@@ -35,9 +35,9 @@ stride-has-spec =
     invariant-loop
     decreases-loop
     loop-holds
-    (λ c. search needs)
-    (λ c. search needs)
-    (λ c. search needs)
-    (λ c. search needs)
+    (λ c. search rules)
+    (λ c. search rules)
+    (λ c. search rules)
+    (λ c. search rules)
     loop-again
     returns)

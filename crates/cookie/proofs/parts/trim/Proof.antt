@@ -1,5 +1,5 @@
 -- `parts::trim` meets its contract: what is left between the blanks of both ends.
-use Rattle.prelude.proofs.Kit.{◌-◌, sym, ◌∙◌, now, length, take, drop, length-take-le, needs}
+use Rattle.prelude.proofs.Kit.{◌-◌, sym, ◌∙◌, now, length, take, drop, length-take-le, rules}
 use Rattle.prelude.proofs.Lists.{rest_is}
 use Rattle.cookie.proofs.Trimming.{trim_is}
 use Rattle.cookie.proofs.parts.trim.Statement.{statement}
@@ -19,10 +19,10 @@ pub trim-spec : {M : Type 1} → statement M
 trim-spec =
     tie.close
     (tie.spec
-    (λ c κs. search needs)
-    (λ c. search needs)
-    (λ c. search needs)
-    (λ c. search needs)
-    (λ c κs. search needs)
+    (λ c κs. search rules)
+    (λ c. search rules)
+    (λ c. search rules)
+    (λ c. search rules)
+    (λ c κs. search rules)
     slice-aggregate-result
     returns)

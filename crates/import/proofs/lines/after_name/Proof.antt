@@ -1,5 +1,5 @@
 -- `lines::after_name` meets its contract: what stands before the first colon is compared with the header's name.
-use Rattle.prelude.proofs.Kit.{ℕ, List, arith, sym, now, length-take-le, needs}
+use Rattle.prelude.proofs.Kit.{ℕ, List, arith, sym, now, length-take-le, rules}
 use Rattle.import.specs.Lines.{colon}
 use Rattle.cookie.proofs.Finding.{found_within}
 use Rattle.import.proofs.TakingOff.{no_colon, name_within, a_header, no_header}
@@ -40,14 +40,14 @@ pub after-name-spec : {M : Type 1} → statement M
 after-name-spec =
     tie.close
     (tie.spec
-    (λ c κs. search needs)
+    (λ c κs. search rules)
     returns
     slice-aggregate-is-word
-    (λ c. search needs)
-    (λ c κs. search needs)
+    (λ c. search rules)
+    (λ c κs. search rules)
     add_start
     sub-result
     part-result-start
-    (λ c. search needs)
+    (λ c. search rules)
     returns-2
     returns-3)

@@ -1,5 +1,5 @@
 -- `lines::length_without_returns` meets its contract: it stops behind the last byte that is no carriage return.
-use Rattle.prelude.proofs.Kit.{needs, eq-eqb, ne_eqb}
+use Rattle.prelude.proofs.Kit.{rules, eq-eqb, ne_eqb}
 use Rattle.cookie.proofs.Trimming.{Shortening, shortening_begins, shortening_stops, shortening_goes_on, shortening_ends}
 use Rattle.import.specs.Lines.{is_return}
 use Rattle.import.proofs.lines.length_without_returns.Statement.{statement}
@@ -33,10 +33,10 @@ length-without-returns-spec =
     invariant-loop
     decreases-loop
     loop-holds
-    (λ c. search needs)
-    (λ c. search needs)
+    (λ c. search rules)
+    (λ c. search rules)
     returns
-    (λ c. search needs)
-    (λ c. search needs)
+    (λ c. search rules)
+    (λ c. search rules)
     loop-again
     returns-2)

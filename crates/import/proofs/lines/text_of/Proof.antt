@@ -1,5 +1,5 @@
 -- `lines::text_of` meets its contract: carriage returns are taken off first, then a header's name.
-use Rattle.prelude.proofs.Kit.{sym, ◌∙◌, ap, needs, length-take-le}
+use Rattle.prelude.proofs.Kit.{sym, ◌∙◌, ap, rules, length-take-le}
 use Rattle.import.specs.Lines.{after_name}
 use Rattle.import.proofs.lines.text_of.Statement.{statement}
 use Rattle.import.proofs.lines.text_of.Tie as tie
@@ -11,4 +11,4 @@ returns : tie.Need-returns
 returns c = c.after-name.ensures ∙ ap after_name c.before.before.length-without-returns.ensures.1
 
 pub text-of-spec : {M : Type 1} → statement M
-text-of-spec = tie.close (tie.spec (λ c κs. search needs) slice-aggregate-after-name (λ c κs. search needs) returns)
+text-of-spec = tie.close (tie.spec (λ c κs. search rules) slice-aggregate-after-name (λ c κs. search rules) returns)

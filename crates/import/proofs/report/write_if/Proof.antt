@@ -1,5 +1,5 @@
 -- `report::write_if` meets its contract: nothing is written where it is off.
-use Rattle.prelude.proofs.Kit.{Bool, arith, sym, refl, subst, now, needs}
+use Rattle.prelude.proofs.Kit.{Bool, arith, sym, refl, subst, now, rules}
 use Rattle.text.specs.Text.{Wrote}
 use Rattle.import.specs.Report.{flag_text}
 use Rattle.import.proofs.report.write_if.Statement.{statement}
@@ -20,4 +20,4 @@ returns-2 c =
     (record { place = omega arith; within = omega (arith, s.requires); written = refl })
 
 pub write-if-spec : {M : Type 1} → statement M
-write-if-spec = tie.close (tie.spec (λ c κs. search needs) (λ c. search needs) returns returns-2)
+write-if-spec = tie.close (tie.spec (λ c κs. search rules) (λ c. search rules) returns returns-2)

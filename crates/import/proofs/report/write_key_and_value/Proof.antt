@@ -1,5 +1,5 @@
 -- `report::write_key_and_value` meets its contract: two numbers, each after its word.
-use Rattle.prelude.proofs.Kit.{◌≤◌, ◌+◌, arith, now, length, needs}
+use Rattle.prelude.proofs.Kit.{◌≤◌, ◌+◌, arith, now, length, rules}
 use Rattle.text.proofs.Decimals.{decimal_ten}
 use Rattle.text.proofs.Writing.{wrote_then}
 use Rattle.import.proofs.report.write_key_and_value.Statement.{statement}
@@ -53,11 +53,11 @@ pub write-key-and-value-spec : {M : Type 1} → statement M
 write-key-and-value-spec =
     tie.close
     (tie.spec
-    (λ c. search needs)
-    (λ c κs. search needs)
+    (λ c. search rules)
+    (λ c κs. search rules)
     write-decimal-requires
-    (λ c. search needs)
+    (λ c. search rules)
     write-bytes-requires-2
     write-decimal-requires-2
-    (λ c. search needs)
+    (λ c. search rules)
     returns)

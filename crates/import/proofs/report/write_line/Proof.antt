@@ -1,5 +1,5 @@
 -- `report::write_line` meets its contract: the number of the line, then what it settles or why it is refused.
-use Rattle.prelude.proofs.Kit.{ℕ, ◌≤◌, ◌<◌, ◌+◌, arith, List, ◌≡◌, sym, ◌∙◌, ap, subst, now, length, needs}
+use Rattle.prelude.proofs.Kit.{ℕ, ◌≤◌, ◌<◌, ◌+◌, arith, List, ◌≡◌, sym, ◌∙◌, ap, subst, now, length, rules}
 use Rattle.machine.specs.Policy.{host_keys}
 use Rattle.text.specs.Text.{AtFront}
 use Rattle.text.proofs.Decimals.{number_room}
@@ -97,14 +97,14 @@ pub write-line-spec : {M : Type 1} → statement M
 write-line-spec =
     tie.close
     (tie.spec
-    (λ c κs. search needs)
-    (λ c κs. search needs)
+    (λ c κs. search rules)
+    (λ c κs. search rules)
     write-number-requires
-    (λ c. search needs)
+    (λ c. search rules)
     write-bytes-requires
     write-refusal-requires
-    (λ c. search needs)
+    (λ c. search rules)
     returns
     write-settled-requires
-    (λ c. search needs)
+    (λ c. search rules)
     returns-2)

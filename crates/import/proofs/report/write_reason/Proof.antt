@@ -1,5 +1,5 @@
 -- `report::write_reason` meets its contract: each number has its reason.
-use Rattle.prelude.proofs.Kit.{eq-eqb, ne_eqb, needs}
+use Rattle.prelude.proofs.Kit.{eq-eqb, ne_eqb, rules}
 use Rattle.cookie.specs.Import.{host_unknown, no_name, no_key}
 use Rattle.import.proofs.report.write_reason.Statement.{statement}
 use Rattle.import.proofs.report.write_reason.Tie as tie
@@ -32,19 +32,19 @@ pub write-reason-spec : {M : Type 1} → statement M
 write-reason-spec =
     tie.close
     (tie.spec
-    (λ c. search needs)
-    (λ c κs. search needs)
-    (λ c. search needs)
+    (λ c. search rules)
+    (λ c κs. search rules)
+    (λ c. search rules)
     returns
-    (λ c. search needs)
-    (λ c κs. search needs)
-    (λ c. search needs)
+    (λ c. search rules)
+    (λ c κs. search rules)
+    (λ c. search rules)
     returns-2
-    (λ c. search needs)
-    (λ c κs. search needs)
-    (λ c. search needs)
+    (λ c. search rules)
+    (λ c κs. search rules)
+    (λ c. search rules)
     returns-3
-    (λ c. search needs)
-    (λ c κs. search needs)
-    (λ c. search needs)
+    (λ c. search rules)
+    (λ c κs. search rules)
+    (λ c. search rules)
     returns-4)

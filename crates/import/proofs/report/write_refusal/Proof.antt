@@ -1,5 +1,5 @@
 -- `report::write_refusal` meets its contract: the number, then its reason.
-use Rattle.prelude.proofs.Kit.{arith, needs}
+use Rattle.prelude.proofs.Kit.{arith, rules}
 use Rattle.text.proofs.Decimals.{number_room}
 use Rattle.text.proofs.Writing.{wrote_then}
 use Rattle.import.proofs.report.write_refusal.Statement.{statement}
@@ -30,9 +30,9 @@ pub write-refusal-spec : {M : Type 1} → statement M
 write-refusal-spec =
     tie.close
     (tie.spec
-    (λ c. search needs)
-    (λ c κs. search needs)
+    (λ c. search rules)
+    (λ c κs. search rules)
     write-number-requires
     write-reason-requires
-    (λ c. search needs)
+    (λ c. search rules)
     returns)

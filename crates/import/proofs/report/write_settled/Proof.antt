@@ -1,5 +1,5 @@
 -- `report::write_settled` meets its contract: word, key, value and flags, one after another.
-use Rattle.prelude.proofs.Kit.{◌≤◌, arith, length, needs}
+use Rattle.prelude.proofs.Kit.{◌≤◌, arith, length, rules}
 use Rattle.text.specs.Text.{ascii}
 use Rattle.import.specs.Report.{word_text, key_and_value, word_room}
 use Rattle.text.proofs.Writing.{wrote_then}
@@ -93,13 +93,13 @@ pub write-settled-spec : {M : Type 1} → statement M
 write-settled-spec =
     tie.close
     (tie.spec
-    (λ c κs. search needs)
+    (λ c κs. search rules)
     write-key-and-value-requires
-    (λ c. search needs)
+    (λ c. search rules)
     write-if-requires
-    (λ c. search needs)
+    (λ c. search rules)
     write-if-requires-2
-    (λ c. search needs)
+    (λ c. search rules)
     write-bytes-requires
-    (λ c. search needs)
+    (λ c. search rules)
     returns)

@@ -1,5 +1,5 @@
 -- `report::write_word` meets its contract: the place of the readers of the host's cookie, and their word.
-use Rattle.prelude.proofs.Kit.{ℕ, ◌+◌, ◌*◌, arith, needs}
+use Rattle.prelude.proofs.Kit.{ℕ, ◌+◌, ◌*◌, arith, rules}
 use Rattle.machine.specs.Policy.{cookie_labels_at, cookie_index}
 use Rattle.text.proofs.Decimals.{number_room}
 use Rattle.text.proofs.Writing.{wrote_then}
@@ -53,17 +53,17 @@ pub write-word-spec : {M : Type 1} → statement M
 write-word-spec =
     tie.close
     (tie.spec
-    (λ c. search needs)
-    (λ c κs. search needs)
-    (λ c. search needs)
-    (λ c. search needs)
-    (λ c. search needs)
-    (λ c. search needs)
-    (λ c. search needs)
-    (λ c. search needs)
+    (λ c. search rules)
+    (λ c κs. search rules)
+    (λ c. search rules)
+    (λ c. search rules)
+    (λ c. search rules)
+    (λ c. search rules)
+    (λ c. search rules)
+    (λ c. search rules)
     write-number-requires
-    (λ c. search needs)
+    (λ c. search rules)
     write-bytes-requires-2
     write-hex-word-requires
-    (λ c. search needs)
+    (λ c. search rules)
     returns)

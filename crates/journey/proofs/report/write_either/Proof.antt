@@ -1,5 +1,5 @@
 -- `report::write_either` meets its contract: one text or the other.
-use Rattle.prelude.proofs.Kit.{needs}
+use Rattle.prelude.proofs.Kit.{rules}
 use Rattle.journey.proofs.report.write_either.Statement.{statement}
 use Rattle.journey.proofs.report.write_either.Tie as tie
 
@@ -11,4 +11,4 @@ returns-2 c = let w = c.before.before in rw w.before.before.if1.false w.write-by
 
 pub write-either-spec : {M : Type 1} → statement M
 write-either-spec =
-    tie.close (tie.spec (λ c κs. search needs) (λ c. search needs) returns (λ c κs. search needs) (λ c. search needs) returns-2)
+    tie.close (tie.spec (λ c κs. search rules) (λ c. search rules) returns (λ c κs. search rules) (λ c. search rules) returns-2)

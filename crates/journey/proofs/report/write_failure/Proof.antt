@@ -1,5 +1,5 @@
 -- `report::write_failure` meets its contract: the first URL that the connection does not take, and why.
-use Rattle.prelude.proofs.Kit.{◌≤◌, ◌<◌, arith, not, ◌≡◌, sym, ◌∙◌, ap, subst, T, needs, now, length}
+use Rattle.prelude.proofs.Kit.{◌≤◌, ◌<◌, arith, not, ◌≡◌, sym, ◌∙◌, ap, subst, T, rules, now, length}
 use Rattle.text.specs.Text.{Wrote}
 use Rattle.journeys.specs.declared.Stop.{Stop}
 use Rattle.journeys.specs.Journey.{most_urls, fails_at, stop_at}
@@ -62,13 +62,13 @@ pub write-failure-spec : {M : Type 1} → statement M
 write-failure-spec =
     tie.close
     (tie.spec
-    (λ c κs. search needs)
-    (λ c. search needs)
-    (λ c. search needs)
+    (λ c κs. search rules)
+    (λ c. search rules)
+    (λ c. search rules)
     shared-slice-read-write-why
     cast-write-why-2
     add-write-why
     cast-write-why-3
-    (λ c κs. search needs)
-    (λ c. search needs)
+    (λ c κs. search rules)
+    (λ c. search rules)
     returns)

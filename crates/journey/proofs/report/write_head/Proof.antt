@@ -1,5 +1,5 @@
 -- `report::write_head` meets its contract: the connection, then the number that refuses.
-use Rattle.prelude.proofs.Kit.{arith, needs}
+use Rattle.prelude.proofs.Kit.{arith, rules}
 use Rattle.text.proofs.Decimals.{number_room}
 use Rattle.text.proofs.Writing.{wrote_then}
 use Rattle.journey.proofs.report.write_head.Statement.{statement}
@@ -21,4 +21,4 @@ returns c =
     wrote_then w.write-number.ensures l.write-labelled.ensures
 
 pub write-head-spec : {M : Type 1} → statement M
-write-head-spec = tie.close (tie.spec write-number-requires (λ c. search needs) write-labelled-requires (λ c. search needs) returns)
+write-head-spec = tie.close (tie.spec write-number-requires (λ c. search rules) write-labelled-requires (λ c. search rules) returns)

@@ -1,5 +1,5 @@
 -- `report::write_labelled` meets its contract: the words, then the number.
-use Rattle.prelude.proofs.Kit.{arith, needs}
+use Rattle.prelude.proofs.Kit.{arith, rules}
 use Rattle.text.proofs.Decimals.{decimal_ten}
 use Rattle.text.proofs.Writing.{wrote_then}
 use Rattle.journey.proofs.report.write_labelled.Statement.{statement}
@@ -18,4 +18,4 @@ returns c =
     wrote_then w.write_bytes.ensures d.write-decimal.ensures
 
 pub write-labelled-spec : {M : Type 1} → statement M
-write-labelled-spec = tie.close (tie.spec (λ c κs. search needs) write-decimal-requires (λ c. search needs) returns)
+write-labelled-spec = tie.close (tie.spec (λ c κs. search rules) write-decimal-requires (λ c. search rules) returns)

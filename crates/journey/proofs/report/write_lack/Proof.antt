@@ -1,5 +1,5 @@
 -- `report::write_lack` meets its contract: the endpoint, and the set that lacks it.
-use Rattle.prelude.proofs.Kit.{arith, needs}
+use Rattle.prelude.proofs.Kit.{arith, rules}
 use Rattle.text.specs.Text.{ascii}
 use Rattle.text.proofs.Writing.{wrote_then}
 use Rattle.journey.proofs.Room.{labelled_room, set_room, owner_room}
@@ -68,11 +68,11 @@ pub write-lack-spec : {M : Type 1} → statement M
 write-lack-spec =
     tie.close
     (tie.spec
-    (λ c. search needs)
-    (λ c κs. search needs)
+    (λ c. search rules)
+    (λ c κs. search rules)
     write-set-requires
     write-owner-requires
-    (λ c. search needs)
+    (λ c. search rules)
     write-bytes-requires
-    (λ c. search needs)
+    (λ c. search rules)
     returns)

@@ -1,5 +1,5 @@
 -- `report::write_none` meets its contract: the lines of the connections, one after another.
-use Rattle.prelude.proofs.Kit.{◌-◌, arith, needs}
+use Rattle.prelude.proofs.Kit.{◌-◌, arith, rules}
 use Rattle.machine.specs.Policy.{connections}
 use Rattle.text.proofs.Writing.{wrote_then}
 use Rattle.text.proofs.Pieces.{Listing, listing_begins, room_here, listing_goes_on, listing_ends}
@@ -52,12 +52,12 @@ write-none-spec =
     (tie.spec
     invariant-loop
     decreases-loop
-    (λ c. search needs)
+    (λ c. search rules)
     (λ c κs. omega (arith, c.before.before.before.before.before.requires.0))
     loop-holds
     write-failure-requires
-    (λ c. search needs)
-    (λ c. search needs)
+    (λ c. search rules)
+    (λ c. search rules)
     loop-again
     same_length
     returns)

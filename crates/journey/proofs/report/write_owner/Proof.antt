@@ -1,5 +1,5 @@
 -- `report::write_owner` meets its contract: the URL or the connection, with its number.
-use Rattle.prelude.proofs.Kit.{needs}
+use Rattle.prelude.proofs.Kit.{rules}
 use Rattle.journey.proofs.report.write_owner.Statement.{statement}
 use Rattle.journey.proofs.report.write_owner.Tie as tie
 
@@ -17,11 +17,11 @@ pub write-owner-spec : {M : Type 1} → statement M
 write-owner-spec =
     tie.close
     (tie.spec
-    (λ c. search needs)
-    (λ c κs. search needs)
-    (λ c. search needs)
+    (λ c. search rules)
+    (λ c κs. search rules)
+    (λ c. search rules)
     returns
-    (λ c. search needs)
-    (λ c κs. search needs)
-    (λ c. search needs)
+    (λ c. search rules)
+    (λ c κs. search rules)
+    (λ c. search rules)
     returns-2)

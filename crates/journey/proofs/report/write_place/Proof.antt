@@ -1,5 +1,5 @@
 -- `report::write_place` meets its contract: the URL, its place and how many there are.
-use Rattle.prelude.proofs.Kit.{arith, needs}
+use Rattle.prelude.proofs.Kit.{arith, rules}
 use Rattle.text.specs.Text.{ascii}
 use Rattle.text.proofs.Writing.{wrote_then}
 use Rattle.journey.proofs.Room.{labelled_room}
@@ -44,11 +44,11 @@ pub write-place-spec : {M : Type 1} → statement M
 write-place-spec =
     tie.close
     (tie.spec
-    (λ c. search needs)
-    (λ c κs. search needs)
-    (λ c. search needs)
+    (λ c. search rules)
+    (λ c κs. search rules)
+    (λ c. search rules)
     write-labelled-requires-2
-    (λ c. search needs)
+    (λ c. search rules)
     write-labelled-requires-3
-    (λ c. search needs)
+    (λ c. search rules)
     returns)

@@ -1,5 +1,5 @@
 -- `report::write_report` meets its contract: a refusal, the lines of all connections, or the connection that is told.
-use Rattle.prelude.proofs.Kit.{sym, ◌∙◌, subst, arith, needs, now}
+use Rattle.prelude.proofs.Kit.{sym, ◌∙◌, subst, arith, rules, now}
 use Rattle.text.specs.Text.{AtFront}
 use Rattle.text.proofs.Decimals.{number_room}
 use Rattle.text.proofs.Writing.{at_front_lem}
@@ -70,13 +70,13 @@ pub write-report-spec : {M : Type 1} → statement M
 write-report-spec =
     tie.close
     (tie.spec
-    (λ c κs. search needs)
-    (λ c κs. search needs)
-    (λ c. search needs)
+    (λ c κs. search rules)
+    (λ c κs. search rules)
+    (λ c. search rules)
     returns
     write-none-requires
-    (λ c. search needs)
+    (λ c. search rules)
     returns-2
     write-number-requires
-    (λ c. search needs)
+    (λ c. search rules)
     returns-3)

@@ -1,5 +1,5 @@
 -- `report::write_why` meets its contract: connection and number, then the URL, then what is missing.
-use Rattle.prelude.proofs.Kit.{arith, needs}
+use Rattle.prelude.proofs.Kit.{arith, rules}
 use Rattle.text.proofs.Writing.{wrote_then}
 use Rattle.journey.proofs.Room.{head_room, place_room}
 use Rattle.journey.proofs.report.write_why.Statement.{statement}
@@ -38,4 +38,4 @@ returns c =
     wrote_then w.write-head.ensures (wrote_then x.write-place.ensures y.write-lack.ensures)
 
 pub write-why-spec : {M : Type 1} → statement M
-write-why-spec = tie.close (tie.spec (λ c κs. search needs) write-place-requires write-lack-requires (λ c. search needs) returns)
+write-why-spec = tie.close (tie.spec (λ c κs. search rules) write-place-requires write-lack-requires (λ c. search rules) returns)

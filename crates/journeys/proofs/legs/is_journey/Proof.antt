@@ -1,5 +1,5 @@
 -- `legs::is_journey` meets its contract: the numbers are asked one after another, up to the first that names no URL.
-use Rattle.prelude.proofs.Kit.{◌≤◌, ◌-◌, arith, true, ◌≡◌, sym, ◌∙◌, ap, needs, not-false, not-true, now, length}
+use Rattle.prelude.proofs.Kit.{◌≤◌, ◌-◌, arith, true, ◌≡◌, sym, ◌∙◌, ap, rules, not-false, not-true, now, length}
 use Rattle.labels.specs.Membership.{all_below}
 use Rattle.labels.proofs.Below.{all_none, one_passed, one_failed}
 use Rattle.journeys.proofs.Judging.{named, no_urls, too_many, by_names}
@@ -55,11 +55,11 @@ is-journey-spec =
     returns
     returns-2
     loop-holds
-    (λ c. search needs)
+    (λ c. search rules)
     cast-is-url
-    (λ c κs. search needs)
+    (λ c κs. search rules)
     returns-3
-    (λ c. search needs)
-    (λ c. search needs)
+    (λ c. search rules)
+    (λ c. search rules)
     loop-again
     returns-4)

@@ -1,5 +1,5 @@
 -- `legs::judge` meets its contract: a load is asked about at the first place, and a redirect at each further one.
-use Rattle.prelude.proofs.Kit.{arith, sym, ◌∙◌, ap, ap₂, subst, needs, now}
+use Rattle.prelude.proofs.Kit.{arith, sym, ◌∙◌, ap, ap₂, subst, rules, now}
 use Rattle.machine.specs.Policy.{fit_missing_reader, fit_missing_writer, redirect_missing_reader, redirect_missing_writer}
 use Rattle.policy.specs.Given.{Url}
 use Rattle.journeys.specs.Legs.{first_forbidden}
@@ -63,14 +63,14 @@ pub judge-spec : {M : Type 1} → statement M
 judge-spec =
     tie.close
     (tie.spec
-    (λ c. search needs)
+    (λ c. search rules)
     cast-named
-    (λ c κs. search needs)
+    (λ c κs. search rules)
     fit-missing-reader-requires
     fit-missing-writer-requires
-    (λ c. search needs)
+    (λ c. search rules)
     returns
     redirect-missing-reader-requires
     redirect-missing-writer-requires
-    (λ c. search needs)
+    (λ c. search rules)
     returns-2)

@@ -1,5 +1,5 @@
 -- `search::fails_at` meets its contract: the first place that is not taken.
-use Rattle.prelude.proofs.Kit.{◌-◌, needs, length}
+use Rattle.prelude.proofs.Kit.{◌-◌, rules, length}
 use Rattle.journeys.proofs.Searching.{Before, before_begins, before_goes_on, failure_found, failure_none, taken, not_taken}
 use Rattle.journeys.proofs.search.fails_at.Statement.{statement}
 use Rattle.journeys.proofs.search.fails_at.Tie as tie
@@ -38,7 +38,7 @@ fails-at-spec =
     loop-holds
     judge-requires
     returns
-    (λ c. search needs)
-    (λ c. search needs)
+    (λ c. search rules)
+    (λ c. search rules)
     loop-again
     returns-2)

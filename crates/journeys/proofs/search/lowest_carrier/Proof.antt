@@ -1,6 +1,6 @@
 -- `search::lowest_carrier` meets its contract: both loops are left at the first connection that takes each URL, and a connection is passed at the first
 -- URL that it does not take.
-use Rattle.prelude.proofs.Kit.{◌≤◌, ◌-◌, arith, true, ◌≡◌, ◌∙◌, ap, needs, now, length}
+use Rattle.prelude.proofs.Kit.{◌≤◌, ◌-◌, arith, true, ◌≡◌, ◌∙◌, ap, rules, now, length}
 use Rattle.labels.specs.Membership.{all_below}
 use Rattle.labels.proofs.Below.{all_none, one_passed}
 use Rattle.machine.specs.Policy.{connections}
@@ -72,11 +72,11 @@ lowest-carrier-spec =
     search-holds
     loop-holds
     judge-requires
-    (λ c. search needs)
-    (λ c. search needs)
+    (λ c. search rules)
+    (λ c. search rules)
     loop-again
-    (λ c. search needs)
-    (λ c. search needs)
+    (λ c. search rules)
+    (λ c. search rules)
     search-again
     returns
     returns-2)

@@ -1,5 +1,5 @@
 -- `stops::first_stop` meets its contract: the first place that is not taken, or the end of the journey.
-use Rattle.prelude.proofs.Kit.{arith, ◌≡◌, ◌∙◌, ap, needs, now, length}
+use Rattle.prelude.proofs.Kit.{arith, ◌≡◌, ◌∙◌, ap, rules, now, length}
 use Rattle.journeys.specs.Journey.{stop_at}
 use Rattle.journeys.proofs.Judging.{few_urls}
 use Rattle.journeys.proofs.Stopping.{at_most, stops_there, stops_nowhere}
@@ -38,4 +38,4 @@ returns-2 c =
     rw (ends c) (stops_nowhere (now a.policy) (now a.urls) a.connection (omega (arith, c.if1.false, f.fails-at.ensures)))
 
 pub first-stop-spec : {M : Type 1} → statement M
-first-stop-spec = tie.close (tie.spec (λ c κs. search needs) (λ c κs. search needs) returns cast-t7 returns-2)
+first-stop-spec = tie.close (tie.spec (λ c κs. search rules) (λ c κs. search rules) returns cast-t7 returns-2)

@@ -1,5 +1,5 @@
 -- `stops::stop_at` meets its contract: what labels say at the place, and the URL that is asked for there.
-use Rattle.prelude.proofs.Kit.{arith, sym, subst, needs, now}
+use Rattle.prelude.proofs.Kit.{arith, sym, subst, rules, now}
 use Rattle.policy.specs.Given.{Url}
 use Rattle.journeys.specs.Legs.{verdict}
 use Rattle.journeys.proofs.Judging.{asked_url, few_urls}
@@ -48,12 +48,12 @@ pub stop-at-spec : {M : Type 1} → statement M
 stop-at-spec =
     tie.close
     (tie.spec
-    (λ c κs. search needs)
-    (λ c. search needs)
+    (λ c κs. search rules)
+    (λ c. search rules)
     cast-upgraded
-    (λ c κs. search needs)
+    (λ c κs. search rules)
     url-lacks-requires
     cast-t11
     cast-t12
-    (λ c. search needs)
+    (λ c. search rules)
     returns)

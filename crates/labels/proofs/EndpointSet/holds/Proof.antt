@@ -1,5 +1,5 @@
 -- `EndpointSet::holds` meets its contract: the bit that is shifted down is the one that membership reads.
-use Rattle.prelude.proofs.Kit.{arith, needs, le-ltb, lt-ltb}
+use Rattle.prelude.proofs.Kit.{arith, rules, le-ltb, lt-ltb}
 use lib.Bits.{and_mask}
 use Rattle.labels.specs.Membership.{endpoints}
 use Rattle.labels.specs.Sets.{holds}
@@ -11,7 +11,7 @@ unfolding holds
 returns c = rw (le-ltb c.before.args.endpoint endpoints (omega arith))
 
 shr-result : tie.Need-overflow-shr-result
-shr-result c = search needs
+shr-result c = search rules
 
 returns-2 : tie.Need-returns-2
 unfolding holds

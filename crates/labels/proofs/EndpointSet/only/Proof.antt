@@ -1,5 +1,5 @@
 -- `EndpointSet::only` meets its contract: a one that is shifted by at most 31 stays in the word.
-use Rattle.prelude.proofs.Kit.{◌^◌, one-mul, arith, ◌∙◌, refl, needs, le-ltb, lt-ltb, lit<}
+use Rattle.prelude.proofs.Kit.{◌^◌, one-mul, arith, ◌∙◌, refl, rules, le-ltb, lt-ltb, lit<}
 use lib.Pow.{shl_exact}
 use Rattle.labels.specs.Membership.{endpoints}
 use Rattle.labels.specs.Sets.{only, empty, all}
@@ -11,7 +11,7 @@ unfolding only empty all
 returns c = (rw (le-ltb c.before.args.endpoint endpoints (omega arith)), (refl, refl))
 
 shl-t3 : tie.Need-overflow-shl-t3
-shl-t3 c = search needs
+shl-t3 c = search rules
 
 returns-2 : tie.Need-returns-2
 unfolding only empty all

@@ -1,5 +1,5 @@
 -- `addresses::event_set` meets its contract: an address's event endpoint is its host, and above 31 there is none.
-use Rattle.prelude.proofs.Kit.{arith, needs, le-ltb, lt-ltb}
+use Rattle.prelude.proofs.Kit.{arith, rules, le-ltb, lt-ltb}
 use Rattle.labels.specs.Membership.{endpoints}
 use Rattle.labels.specs.Sets.{empty}
 use Rattle.labels.specs.Addresses.{event_set}
@@ -15,4 +15,4 @@ unfolding event_set
 returns-2 c = rw (lt-ltb c.before.before.args.address endpoints (omega arith)) c.only.ensures.0
 
 pub event-set-spec : {M : Type 1} → statement M
-event-set-spec = tie.close (tie.spec returns (λ c κs. search needs) returns-2)
+event-set-spec = tie.close (tie.spec returns (λ c κs. search rules) returns-2)

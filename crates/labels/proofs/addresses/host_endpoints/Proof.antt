@@ -1,5 +1,5 @@
 -- `addresses::host_endpoints` meets its contract: ones that are shifted by at most 31 stay in the word, and make the word of the host's endpoints.
-use Rattle.prelude.proofs.Kit.{ℕ, ◌<◌, ◌+◌, ◌*◌, ◌%◌, ◌^◌, one-mul, arith, true, false, Bool, ◌≡◌, ◌∙◌, ap₂, needs, lit<}
+use Rattle.prelude.proofs.Kit.{ℕ, ◌<◌, ◌+◌, ◌*◌, ◌%◌, ◌^◌, one-mul, arith, true, false, Bool, ◌≡◌, ◌∙◌, ap₂, rules, lit<}
 use lib.Pow.{shl_exact}
 use Rattle.labels.specs.Membership.{endpoints}
 use Rattle.labels.specs.Sets.{holds}
@@ -41,4 +41,4 @@ returns-3 : tie.Need-returns-3
 returns-3 c = let a = c.before.before.args in http_too a.host (omega arith) a.https_alone c.if2.false
 
 pub host-endpoints-spec : {M : Type 1} → statement M
-host-endpoints-spec = tie.close (tie.spec returns (λ c. search needs) (λ c. search needs) returns-2 (λ c. search needs) add-result returns-3)
+host-endpoints-spec = tie.close (tie.spec returns (λ c. search rules) (λ c. search rules) returns-2 (λ c. search rules) add-result returns-3)

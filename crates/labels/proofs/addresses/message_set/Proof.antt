@@ -1,5 +1,5 @@
 -- `addresses::message_set` meets its contract: an address is its own message endpoint, and above 31 its singleton is empty as well.
-use Rattle.prelude.proofs.Kit.{ℕ, ◌^◌, Bool, true, false, cond, ltb, ◌≡◌, refl, needs}
+use Rattle.prelude.proofs.Kit.{ℕ, ◌^◌, Bool, true, false, cond, ltb, ◌≡◌, refl, rules}
 use Rattle.labels.specs.Membership.{endpoints}
 use Rattle.labels.specs.Sets.{only, empty}
 use Rattle.labels.specs.Addresses.{message_set}
@@ -18,4 +18,4 @@ returns : tie.Need-returns
 returns c = rw (← singleton c.before.args.address) c.only.ensures.0
 
 pub message-set-spec : {M : Type 1} → statement M
-message-set-spec = tie.close (tie.spec (λ c κs. search needs) returns)
+message-set-spec = tie.close (tie.spec (λ c κs. search rules) returns)

@@ -1,5 +1,5 @@
 -- `events::arrive` meets its contract: each refusal where its test is the first that fails, and else what `receive` does.
-use Rattle.prelude.proofs.Kit.{ℕ, ◌&&◌, not, List, ◌≡◌, sym, ◌∙◌, ap, ap₂, subst, needs, not-false, not-true, now, take}
+use Rattle.prelude.proofs.Kit.{ℕ, ◌&&◌, not, List, ◌≡◌, sym, ◌∙◌, ap, ap₂, subst, rules, not-false, not-true, now, take}
 use Rattle.prelude.proofs.Refusals.{NoneOf}
 use Rattle.machine.specs.Policy.{is_url, is_connection}
 use Rattle.machine.specs.Machine.{Event, carries_names, named, awaited, missing_reader, missing_writer, event_refusals, receive, perform}
@@ -94,7 +94,7 @@ returns-2 c =
     (ap not (third_fails (is_url (now a.policy) a.from.url) (is_connection a.from.connection) (carries_names (now a.policy) (told a.what)) (sym carries.carries-names.ensures.0 ∙ not-true carries.carries-names.result c.before.if2.true))) tt c.refused2.ensures
 
 connection-word-requires : tie.Need-connection-word-requires
-connection-word-requires c κs = let given = arriving c.before in search needs
+connection-word-requires c κs = let given = arriving c.before in search rules
 
 returns-3 : tie.Need-returns-3
 returns-3 c =
@@ -170,4 +170,4 @@ returns-6 c =
 
 pub arrive-spec : {M : Type 1} → statement M
 arrive-spec =
-    tie.close (tie.spec (λ c κs. search needs) (λ c κs. search needs) returns (λ c κs. search needs) (λ c κs. search needs) returns-2 connection-word-requires (λ c κs. search needs) (λ c κs. search needs) (λ c κs. search needs) (λ c κs. search needs) (λ c. search needs) returns-3 target-missing-requires (λ c κs. search needs) (λ c. search needs) returns-4 (λ c κs. search needs) (λ c. search needs) returns-5 store-requires receive-requires (λ c. search needs) (λ c. search needs) returns-6)
+    tie.close (tie.spec (λ c κs. search rules) (λ c κs. search rules) returns (λ c κs. search rules) (λ c κs. search rules) returns-2 connection-word-requires (λ c κs. search rules) (λ c κs. search rules) (λ c κs. search rules) (λ c κs. search rules) (λ c. search rules) returns-3 target-missing-requires (λ c κs. search rules) (λ c. search rules) returns-4 (λ c κs. search rules) (λ c. search rules) returns-5 store-requires receive-requires (λ c. search rules) (λ c. search rules) returns-6)

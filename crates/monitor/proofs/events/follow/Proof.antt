@@ -1,5 +1,5 @@
 -- `events::follow` meets its contract: the request sent is what a redirect does.
-use Rattle.prelude.proofs.Kit.{zero-le, needs, now}
+use Rattle.prelude.proofs.Kit.{zero-le, rules, now}
 use Rattle.monitor.proofs.Reacting.{moved_done}
 use Rattle.monitor.proofs.events.follow.Statement.{statement}
 use Rattle.monitor.proofs.events.follow.Tie as tie
@@ -23,4 +23,4 @@ returns c =
     moved_done (now a.policy) (now a.state) a.connection a.word a.target (now a.out) of.0 of.1 of.2 call.send.ensures.0 call.send.ensures.1
 
 pub follow-spec : {M : Type 1} → statement M
-follow-spec = tie.close (tie.spec (λ c κs. search needs) send-requires (λ c. search needs) (λ c. search needs) returns)
+follow-spec = tie.close (tie.spec (λ c κs. search rules) send-requires (λ c. search rules) (λ c. search rules) returns)

@@ -1,5 +1,5 @@
 -- `events::is_named` meets its contract: both parts of the test, and what they give where it passes.
-use Rattle.prelude.proofs.Kit.{◌&&◌, sym, subst, needs, T, ltb, ltb→lt, and_r, and_l}
+use Rattle.prelude.proofs.Kit.{◌&&◌, sym, subst, rules, T, ltb, ltb→lt, and_r, and_l}
 use Rattle.prelude.proofs.Choices.{is_true}
 use Rattle.machine.specs.Policy.{connections}
 use Rattle.monitor.proofs.events.is_named.Statement.{statement}
@@ -15,4 +15,4 @@ returns c =
     )
 
 pub is-named-spec : {M : Type 1} → statement M
-is-named-spec = tie.close (tie.spec (λ c κs. search needs) returns)
+is-named-spec = tie.close (tie.spec (λ c κs. search rules) returns)

@@ -1,5 +1,5 @@
 -- `events::load` meets its contract: each refusal where its test is the first that fails, and else the request that opens the connection.
-use Rattle.prelude.proofs.Kit.{arith, zero-le, true, not, ◌≡◌, sym, ◌∙◌, refl, ap, subst, needs, not-false, not-true, now, take}
+use Rattle.prelude.proofs.Kit.{arith, zero-le, true, not, ◌≡◌, sym, ◌∙◌, refl, ap, subst, rules, not-false, not-true, now, take}
 use Rattle.prelude.proofs.Refusals.{NoneOf}
 use Rattle.machine.specs.Session.{document_kind}
 use Rattle.machine.specs.Machine.{Event, Load, named, awaited, missing_reader, missing_writer, event_refusals, perform}
@@ -47,7 +47,7 @@ returns c scripts =
     (ap not (sym m.is_named.ensures.0 ∙ not-true m.is_named.result c.before.if1.true)) tt c.refused.ensures
 
 fit-missing-reader-requires : tie.Need-fit-missing-reader-requires
-fit-missing-reader-requires c κs = let given = c.before.is_named.ensures.1 (is_named c) in search needs
+fit-missing-reader-requires c κs = let given = c.before.is_named.ensures.1 (is_named c) in search rules
 
 returns-2 : tie.Need-returns-2
 unfolding missing_reader
@@ -58,7 +58,7 @@ returns-2 c scripts =
     (one_told m.fit-missing-reader.ensures c.before.if2.true) tt (forbidden_with c.forbidden.result 8 m.fit-missing-reader.ensures c.forbidden.ensures)
 
 fit-missing-writer-requires : tie.Need-fit-missing-writer-requires
-fit-missing-writer-requires c κs = let given = (first c.before).is_named.ensures.1 (is_named c.before.before) in search needs
+fit-missing-writer-requires c κs = let given = (first c.before).is_named.ensures.1 (is_named c.before.before) in search rules
 
 returns-3 : tie.Need-returns-3
 unfolding missing_writer
@@ -95,4 +95,4 @@ returns-4 c scripts =
 
 pub load_spec : {M : Type 1} → statement M
 load_spec =
-    tie.close (tie.spec (λ c κs. search needs) (λ c κs. search needs) returns fit-missing-reader-requires (λ c κs. search needs) returns-2 fit-missing-writer-requires (λ c κs. search needs) returns-3 (λ c κs. search needs) send-requires (λ c. search needs) (λ c. search needs) returns-4)
+    tie.close (tie.spec (λ c κs. search rules) (λ c κs. search rules) returns fit-missing-reader-requires (λ c κs. search rules) returns-2 fit-missing-writer-requires (λ c κs. search rules) returns-3 (λ c κs. search rules) send-requires (λ c. search rules) (λ c. search rules) returns-4)

@@ -1,5 +1,5 @@
 -- `events::receive` meets its contract: what each that can arrive does.
-use Rattle.prelude.proofs.Kit.{ℕ, List, ◌≡◌, sym, subst, needs, now}
+use Rattle.prelude.proofs.Kit.{ℕ, List, ◌≡◌, sym, subst, rules, now}
 use Rattle.prelude.specs.Refusals.{accepted}
 use Rattle.labels.specs.Membership.{none_missing}
 use Rattle.machine.specs.Session.{free, kind_of, origin_of, handler_of, url_of, set_connection, send}
@@ -97,4 +97,4 @@ returns-4 c =
 
 pub receive-spec : {M : Type 1} → statement M
 receive-spec =
-    tie.close (tie.spec (λ c κs. search needs) (λ c. search needs) respond-requires (λ c. search needs) respond-requires-2 (λ c. search needs) (λ c κs. search needs) (λ c. search needs) follow-requires (λ c. search needs) (λ c. search needs) returns (λ c. search needs) (λ c. search needs) returns-2 (λ c. search needs) returns-3 (λ c. search needs) (λ c. search needs) returns-4)
+    tie.close (tie.spec (λ c κs. search rules) (λ c. search rules) respond-requires (λ c. search rules) respond-requires-2 (λ c. search rules) (λ c κs. search rules) (λ c. search rules) follow-requires (λ c. search rules) (λ c. search rules) returns (λ c. search rules) (λ c. search rules) returns-2 (λ c. search rules) returns-3 (λ c. search rules) (λ c. search rules) returns-4)

@@ -1,5 +1,5 @@
 -- `events::respond` meets its contract: the connection freed, and then the script run.
-use Rattle.prelude.proofs.Kit.{◌∙◌, needs, now}
+use Rattle.prelude.proofs.Kit.{◌∙◌, rules, now}
 use Rattle.monitor.proofs.Reacting.{part_is, part_length, run_done}
 use Rattle.monitor.proofs.events.respond.Statement.{statement}
 use Rattle.monitor.proofs.events.respond.Tie as tie
@@ -28,4 +28,4 @@ returns c =
 
 pub respond-spec : {M : Type 1} → statement M
 respond-spec =
-    tie.close (tie.spec (λ c κs. search needs) (λ c. search needs) (λ c. search needs) (λ c. search needs) (λ c. search needs) (λ c. search needs) run-requires (λ c. search needs) (λ c. search needs) returns)
+    tie.close (tie.spec (λ c κs. search rules) (λ c. search rules) (λ c. search rules) (λ c. search rules) (λ c. search rules) (λ c. search rules) run-requires (λ c. search rules) (λ c. search rules) returns)

@@ -1,5 +1,5 @@
 -- `events::store` meets its contract: the host is that of the URL.
-use Rattle.prelude.proofs.Kit.{ℕ, ◌∙◌, ap, needs, now}
+use Rattle.prelude.proofs.Kit.{ℕ, ◌∙◌, ap, rules, now}
 use Rattle.machine.specs.Session.{store_cookies}
 use Rattle.session.specs.Delivered.{delivered}
 use Rattle.monitor.proofs.events.store.Statement.{statement}
@@ -14,4 +14,4 @@ returns c =
     ∙ ap (λ (h : ℕ). store_cookies (now a.policy) a.from.connection h (delivered a.from.keys a.from.cookies) (now a.state)) host.url-host.ensures.0
 
 pub store_spec : {M : Type 1} → statement M
-store_spec = tie.close (tie.spec (λ c κs. search needs) (λ c κs. search needs) (λ c. search needs) returns)
+store_spec = tie.close (tie.spec (λ c κs. search rules) (λ c κs. search rules) (λ c. search rules) returns)

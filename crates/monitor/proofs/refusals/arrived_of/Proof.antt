@@ -1,5 +1,5 @@
 -- `refusals::arrived_of` meets its contract: the tests of the map, in the order of the definition.
-use Rattle.prelude.proofs.Kit.{needs, ne_eqb, eq-eqb}
+use Rattle.prelude.proofs.Kit.{rules, ne_eqb, eq-eqb}
 use Rattle.prelude.specs.Choice.{branch}
 use Rattle.machine.specs.Machine.{arrived_of}
 use Rattle.monitor.proofs.refusals.arrived_of.Statement.{statement}
@@ -24,4 +24,4 @@ returns-4 c =
     rw (← m.plain_map.ensures, ne_eqb _ _ c.before.before.before.before.if1.false, ne_eqb _ _ c.before.before.before.if2.false, ne_eqb _ _ c.before.before.if3.false, c.upgraded.ensures)
 
 pub arrived-of-spec : {M : Type 1} → statement M
-arrived-of-spec = tie.close (tie.spec (λ c κs. search needs) (λ c. search needs) returns returns-2 returns-3 (λ c. search needs) (λ c κs. search needs) returns-4)
+arrived-of-spec = tie.close (tie.spec (λ c κs. search rules) (λ c. search rules) returns returns-2 returns-3 (λ c. search rules) (λ c κs. search rules) returns-4)

@@ -1,5 +1,5 @@
 -- `refusals::feed` meets its contract: each refusal where it is the first that applies, and else what `react` does.
-use Rattle.prelude.proofs.Kit.{arith, not, sym, ◌∙◌, ap, subst, needs, ne_eqb, le-ltb, lt-ltb, not-false, not-true, eq-eqb, now, T, length}
+use Rattle.prelude.proofs.Kit.{arith, not, sym, ◌∙◌, ap, subst, rules, ne_eqb, le-ltb, lt-ltb, not-false, not-true, eq-eqb, now, T, length}
 use Rattle.prelude.proofs.Kit.{take}
 use Rattle.prelude.proofs.Refusals.{NoneOf}
 use Rattle.records.specs.declared.Direction.TheVariants.{Input}
@@ -127,4 +127,4 @@ returns-6 c =
 
 pub feed-spec : {M : Type 1} → statement M
 feed-spec =
-    tie.close (tie.spec (λ c κs. search needs) returns (λ c κs. search needs) (λ c κs. search needs) returns-2 (λ c κs. search needs) returns-3 sound-requires (λ c κs. search needs) (λ c. search needs) returns-4 (λ c κs. search needs) (λ c κs. search needs) (λ c. search needs) returns-5 react-requires (λ c. search needs) (λ c. search needs) returns-6)
+    tie.close (tie.spec (λ c κs. search rules) returns (λ c κs. search rules) (λ c κs. search rules) returns-2 (λ c κs. search rules) returns-3 sound-requires (λ c κs. search rules) (λ c. search rules) returns-4 (λ c κs. search rules) (λ c κs. search rules) (λ c. search rules) returns-5 react-requires (λ c. search rules) (λ c. search rules) returns-6)

@@ -1,5 +1,5 @@
 -- `refusals::react` meets its contract: the event of the fields is a load, or what arrived.
-use Rattle.prelude.proofs.Kit.{ℕ, List, ◌≡◌, sym, ◌∙◌, ap, needs, ne_eqb, eq-eqb, now}
+use Rattle.prelude.proofs.Kit.{ℕ, List, ◌≡◌, sym, ◌∙◌, ap, rules, ne_eqb, eq-eqb, now}
 use Rattle.prelude.specs.Choice.{branch}
 use Rattle.records.specs.declared.Record.{Record}
 use Rattle.records.specs.Layout.{load}
@@ -45,4 +45,4 @@ returns-2 c =
 
 pub react-spec : {M : Type 1} → statement M
 react-spec =
-    tie.close (tie.spec (λ c. search needs) (λ c. search needs) (λ c κs. search needs) (λ c κs. search needs) (λ c κs. search needs) (λ c. search needs) (λ c. search needs) returns (λ c κs. search needs) (λ c κs. search needs) (λ c. search needs) (λ c. search needs) returns-2)
+    tie.close (tie.spec (λ c. search rules) (λ c. search rules) (λ c κs. search rules) (λ c κs. search rules) (λ c κs. search rules) (λ c. search rules) (λ c. search rules) returns (λ c κs. search rules) (λ c κs. search rules) (λ c. search rules) (λ c. search rules) returns-2)

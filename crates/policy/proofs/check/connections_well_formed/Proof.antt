@@ -1,5 +1,5 @@
 -- `check::connections_well_formed` meets its contract: the flag is the test of the connections passed.
-use Rattle.prelude.proofs.Kit.{◌≤◌, ◌-◌, zero-le, arith, ◌≡◌, needs}
+use Rattle.prelude.proofs.Kit.{◌≤◌, ◌-◌, zero-le, arith, ◌≡◌, rules}
 use Rattle.labels.specs.Membership.{all_below}
 use Rattle.labels.proofs.Below.{all_none, all_next}
 use Rattle.labels.proofs.Membership.{none_missing_lem}
@@ -17,10 +17,10 @@ loop-holds : tie.Need-loop-init invariant-loop decreases-loop
 loop-holds c = (zero-le, all_none _)
 
 add-connection : tie.Need-overflow-add-connection invariant-loop decreases-loop
-add-connection c = search needs
+add-connection c = search rules
 
 loop-less : tie.Need-loop-smaller invariant-loop decreases-loop
-loop-less c = search needs
+loop-less c = search rules
 
 loop-again : tie.Need-loop-preserved invariant-loop decreases-loop
 unfolding connection_well_formed
@@ -32,4 +32,4 @@ returns c = let past : c.before.loop.connection ≡ connections = omega arith in
 
 pub connections-well-formed-spec : {M : Type 1} → statement M
 connections-well-formed-spec =
-    tie.close (tie.spec invariant-loop decreases-loop loop-holds (λ c κs. search needs) (λ c κs. search needs) (λ c κs. search needs) add-connection loop-less loop-again returns)
+    tie.close (tie.spec invariant-loop decreases-loop loop-holds (λ c κs. search rules) (λ c κs. search rules) (λ c κs. search rules) add-connection loop-less loop-again returns)

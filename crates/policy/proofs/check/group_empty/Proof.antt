@@ -1,5 +1,5 @@
 -- `check::group_empty` meets its contract: the four pairs of rows are empty just where all eight rows are.
-use Rattle.prelude.proofs.Kit.{needs, now, bit_or}
+use Rattle.prelude.proofs.Kit.{rules, now, bit_or}
 use Rattle.prelude.proofs.Bits.{or_zero}
 use Rattle.labels.proofs.Below.{eight}
 use Rattle.machine.specs.Policy.{empty_row}
@@ -20,4 +20,4 @@ returns c =
 
 pub group-empty-spec : {M : Type 1} → statement M
 group-empty-spec =
-    tie.close (tie.spec (λ c κs. search needs) (λ c. search needs) (λ c κs. search needs) (λ c. search needs) (λ c κs. search needs) (λ c. search needs) (λ c κs. search needs) returns)
+    tie.close (tie.spec (λ c κs. search rules) (λ c. search rules) (λ c κs. search rules) (λ c. search rules) (λ c κs. search rules) (λ c. search rules) (λ c κs. search rules) returns)

@@ -1,5 +1,5 @@
 -- `check::group_well_formed` meets its contract: a group of empty rows, or one row after another up to the first that fails.
-use Rattle.prelude.proofs.Kit.{◌≤◌, ◌+◌, ◌-◌, zero-le, arith, true, ◌≡◌, sym, ◌∙◌, needs, not-false, not-true, now}
+use Rattle.prelude.proofs.Kit.{◌≤◌, ◌+◌, ◌-◌, zero-le, arith, true, ◌≡◌, sym, ◌∙◌, rules, not-false, not-true, now}
 use Rattle.labels.specs.Membership.{all_below}
 use Rattle.labels.proofs.Below.{all_none, one_passed, one_failed}
 use Rattle.machine.specs.Policy.{row_well_formed}
@@ -42,4 +42,4 @@ returns-3 c = let past : c.before.loop.i ≡ 8 = omega arith in rw past at c.bef
 
 pub group-well-formed-spec : {M : Type 1} → statement M
 group-well-formed-spec =
-    tie.close (tie.spec invariant-loop decreases-loop (λ c κs. search needs) (λ c κs. search needs) returns loop-holds (λ c. search needs) (λ c κs. search needs) returns-2 (λ c. search needs) (λ c. search needs) loop-again returns-3)
+    tie.close (tie.spec invariant-loop decreases-loop (λ c κs. search rules) (λ c κs. search rules) returns loop-holds (λ c. search rules) (λ c κs. search rules) returns-2 (λ c. search rules) (λ c. search rules) loop-again returns-3)

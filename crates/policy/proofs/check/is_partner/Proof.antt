@@ -1,5 +1,5 @@
 -- `check::is_partner` meets its contract: a row that has an address is not empty.
-use Rattle.prelude.proofs.Kit.{◌<◌, sym, ◌∙◌, needs, now}
+use Rattle.prelude.proofs.Kit.{◌<◌, sym, ◌∙◌, rules, now}
 use borrow.Author.Tests.{leb-true, leb-false}
 use Rattle.labels.specs.Membership.{endpoints}
 use Rattle.machine.specs.Policy.{url_address}
@@ -37,4 +37,4 @@ returns-3 c =
     rw (first.url-address.ensures, c.url-address2.ensures) (partner_row (now a.policy) a.url a.partner asked.if1.false (named m))
 
 pub is-partner-spec : {M : Type 1} → statement M
-is-partner-spec = tie.close (tie.spec returns (λ c κs. search needs) returns-2 url-address-requires (λ c κs. search needs) (λ c. search needs) returns-3)
+is-partner-spec = tie.close (tie.spec returns (λ c κs. search rules) returns-2 url-address-requires (λ c κs. search rules) (λ c. search rules) returns-3)

@@ -1,5 +1,5 @@
 -- `check::is_replaced` meets its contract: the scheme is asked first, and the event endpoint is the host's.
-use Rattle.prelude.proofs.Kit.{◌<◌, arith, sym, ◌∙◌, needs, not-false, not-true, now}
+use Rattle.prelude.proofs.Kit.{◌<◌, arith, sym, ◌∙◌, rules, not-false, not-true, now}
 use borrow.Author.Tests.{ltb-true, ltb-false}
 use Rattle.labels.specs.Addresses.{hosts}
 use Rattle.machine.specs.Policy.{url_address}
@@ -32,4 +32,4 @@ returns-2 c =
 
 pub is-replaced-spec : {M : Type 1} → statement M
 is-replaced-spec =
-    tie.close (tie.spec (λ c κs. search needs) returns url-address-requires (λ c κs. search needs) (λ c κs. search needs) (λ c κs. search needs) returns-2)
+    tie.close (tie.spec (λ c κs. search rules) returns url-address-requires (λ c κs. search rules) (λ c κs. search rules) (λ c κs. search rules) returns-2)

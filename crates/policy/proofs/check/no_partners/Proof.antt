@@ -1,5 +1,5 @@
 -- `check::no_partners` meets its contract: the flag is the test of the URLs passed.
-use Rattle.prelude.proofs.Kit.{◌≤◌, ◌-◌, zero-le, arith, ◌≡◌, needs, now}
+use Rattle.prelude.proofs.Kit.{◌≤◌, ◌-◌, zero-le, arith, ◌≡◌, rules, now}
 use Rattle.labels.specs.Membership.{all_below}
 use Rattle.labels.proofs.Below.{all_none, all_next}
 use Rattle.machine.specs.Policy.{url_rows, partner_well_formed}
@@ -27,4 +27,4 @@ returns c = let past : c.before.loop.url ≡ url_rows = omega arith in rw past a
 
 pub no-partners-spec : {M : Type 1} → statement M
 no-partners-spec =
-    tie.close (tie.spec invariant-loop decreases-loop loop-holds (λ c κs. search needs) (λ c. search needs) (λ c. search needs) loop-again returns)
+    tie.close (tie.spec invariant-loop decreases-loop loop-holds (λ c κs. search rules) (λ c. search rules) (λ c. search rules) loop-again returns)

@@ -1,5 +1,5 @@
 -- `check::pair` meets its contract: two words of 32 bits fit one of 64.
-use Rattle.prelude.proofs.Kit.{◌+◌, arith, needs}
+use Rattle.prelude.proofs.Kit.{◌+◌, arith, rules}
 use Rattle.policy.proofs.check.pair.Statement.{statement}
 use Rattle.policy.proofs.check.pair.Tie as tie
 
@@ -20,4 +20,4 @@ add-result-2 c =
 
 pub pair_spec : {M : Type 1} → statement M
 pair_spec =
-    tie.close (tie.spec (λ c. search needs) (λ c. search needs) cast-result (λ c. search needs) (λ c. search needs) (λ c. search needs) cast-result-2 mul-result-3 add-result-2 (λ c. search needs))
+    tie.close (tie.spec (λ c. search rules) (λ c. search rules) cast-result (λ c. search rules) (λ c. search rules) (λ c. search rules) cast-result-2 mul-result-3 add-result-2 (λ c. search rules))

@@ -1,5 +1,5 @@
 -- `check::partner_well_formed` meets its contract: its two tests are those of the definition.
-use Rattle.prelude.proofs.Kit.{sym, ◌∙◌, needs, now, eqb}
+use Rattle.prelude.proofs.Kit.{sym, ◌∙◌, rules, now, eqb}
 use Rattle.prelude.proofs.Choices.{chosen, left_out}
 use Rattle.machine.specs.Policy.{url_partner, no_partner, is_replaced, is_partner, partner_well_formed}
 use Rattle.policy.proofs.Partners.{replaced_named}
@@ -32,4 +32,4 @@ returns-2 c =
     asked.is-replaced.ensures c.if1.false (rw asked.before.url-partner.ensures)
 
 pub partner-well-formed-spec : {M : Type 1} → statement M
-partner-well-formed-spec = tie.close (tie.spec (λ c κs. search needs) (λ c κs. search needs) (λ c. search needs) is-partner-requires returns returns-2)
+partner-well-formed-spec = tie.close (tie.spec (λ c κs. search rules) (λ c κs. search rules) (λ c. search rules) is-partner-requires returns returns-2)

@@ -1,5 +1,5 @@
 -- `check::row_empty` meets its contract: a set of which nothing is missing in the empty one is 0.
-use Rattle.prelude.proofs.Kit.{◌+◌, ◌*◌, needs, now}
+use Rattle.prelude.proofs.Kit.{◌+◌, ◌*◌, rules, now}
 use Rattle.labels.proofs.Membership.{none_missing_lem}
 use Rattle.policy.proofs.Rows.{row_empty}
 use Rattle.policy.proofs.check.row_empty.Statement.{statement}
@@ -13,4 +13,4 @@ returns c =
     (row_empty (now a.policy) a.url (word (3 * a.url + 1)).fits (word (3 * a.url + 2)).fits)
 
 pub row-empty-spec : {M : Type 1} → statement M
-row-empty-spec = tie.close (tie.spec (λ c κs. search needs) (λ c κs. search needs) (λ c κs. search needs) (λ c κs. search needs) (λ c κs. search needs) returns)
+row-empty-spec = tie.close (tie.spec (λ c κs. search rules) (λ c κs. search rules) (λ c κs. search rules) (λ c κs. search rules) (λ c κs. search rules) returns)

@@ -1,5 +1,5 @@
 -- `check::row_well_formed` meets its contract: whether there is an address settles which of the two tests of a row is asked.
-use Rattle.prelude.proofs.Kit.{◌<◌, sym, ◌∙◌, needs, now}
+use Rattle.prelude.proofs.Kit.{◌<◌, sym, ◌∙◌, rules, now}
 use borrow.Author.Tests.{leb-true, leb-false}
 use Rattle.labels.specs.Membership.{endpoints}
 use Rattle.machine.specs.Policy.{url_address}
@@ -31,4 +31,4 @@ returns-2 c =
 
 pub row-well-formed-spec : {M : Type 1} → statement M
 row-well-formed-spec =
-    tie.close (tie.spec (λ c κs. search needs) (λ c κs. search needs) returns url-address-requires (λ c κs. search needs) (λ c κs. search needs) (λ c κs. search needs) returns-2)
+    tie.close (tie.spec (λ c κs. search rules) (λ c κs. search rules) returns url-address-requires (λ c κs. search rules) (λ c κs. search rules) (λ c κs. search rules) returns-2)

@@ -1,5 +1,5 @@
 -- `check::rows_well_formed` meets its contract: one group after another, up to the first that fails.
-use Rattle.prelude.proofs.Kit.{◌≤◌, ◌+◌, ◌-◌, ◌*◌, zero-le, arith, true, ◌≡◌, sym, ◌∙◌, needs, not-false, not-true, now}
+use Rattle.prelude.proofs.Kit.{◌≤◌, ◌+◌, ◌-◌, ◌*◌, zero-le, arith, true, ◌≡◌, sym, ◌∙◌, rules, not-false, not-true, now}
 use Rattle.labels.specs.Membership.{all_below}
 use Rattle.labels.proofs.Below.{all_none, part_passed, part_failed}
 use Rattle.machine.specs.Policy.{url_rows, row_well_formed}
@@ -35,4 +35,4 @@ returns-2 c = let past : c.before.loop.group ≡ 8 = omega arith in rw past at c
 
 pub rows-well-formed-spec : {M : Type 1} → statement M
 rows-well-formed-spec =
-    tie.close (tie.spec invariant-loop decreases-loop loop-holds (λ c. search needs) (λ c κs. search needs) returns (λ c. search needs) (λ c. search needs) loop-again returns-2)
+    tie.close (tie.spec invariant-loop decreases-loop loop-holds (λ c. search rules) (λ c κs. search rules) returns (λ c. search rules) (λ c. search rules) loop-again returns-2)

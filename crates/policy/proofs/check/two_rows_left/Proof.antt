@@ -1,5 +1,5 @@
 -- `check::two_rows_left` meets its contract: the law of two rows that differ in nothing from empty ones.
-use Rattle.prelude.proofs.Kit.{◌+◌, ◌*◌, needs, now}
+use Rattle.prelude.proofs.Kit.{◌+◌, ◌*◌, rules, now}
 use Rattle.policy.proofs.Pairs.{two_rows}
 use Rattle.policy.proofs.check.two_rows_left.Statement.{statement}
 use Rattle.policy.proofs.check.two_rows_left.Tie as tie
@@ -14,4 +14,4 @@ returns c =
 
 pub two-rows-left-spec : {M : Type 1} → statement M
 two-rows-left-spec =
-    tie.close (tie.spec (λ c. search needs) (λ c κs. search needs) (λ c. search needs) (λ c κs. search needs) (λ c. search needs) (λ c κs. search needs) returns)
+    tie.close (tie.spec (λ c. search rules) (λ c κs. search rules) (λ c. search rules) (λ c κs. search rules) (λ c. search rules) (λ c κs. search rules) returns)

@@ -1,5 +1,5 @@
 -- `check::well_formed` meets its contract: the length, and the parts of the test.
-use Rattle.prelude.proofs.Kit.{◌&&◌, false≢true, ◌≡◌, sym, ◌∙◌, needs, now}
+use Rattle.prelude.proofs.Kit.{◌&&◌, false≢true, ◌≡◌, sym, ◌∙◌, rules, now}
 use Rattle.machine.specs.Policy.{well_formed}
 use Rattle.policy.proofs.Rows.{formed_length, formed_parts, formed_given}
 use Rattle.policy.proofs.check.well_formed.Statement.{statement}
@@ -19,4 +19,4 @@ returns-2 c =
     (same, λ t. formed_given p long (sym same ∙ t))
 
 pub well-formed-spec : {M : Type 1} → statement M
-well-formed-spec = tie.close (tie.spec returns (λ c κs. search needs) (λ c κs. search needs) (λ c κs. search needs) returns-2)
+well-formed-spec = tie.close (tie.spec returns (λ c κs. search rules) (λ c κs. search rules) (λ c κs. search rules) returns-2)

@@ -1,5 +1,5 @@
 -- `words::by_http` meets its contract: the words of addresses by http and by https take turns.
-use Rattle.prelude.proofs.Kit.{needs, now}
+use Rattle.prelude.proofs.Kit.{rules, now}
 use Rattle.policy.proofs.Addresses.{by_http}
 use Rattle.policy.proofs.words.by_http.Statement.{statement}
 use Rattle.policy.proofs.words.by_http.Tie as tie
@@ -10,4 +10,4 @@ returns c =
     rw (c.address_word.ensures, c.before.lacks_address.ensures) (by_http (now a.policy) a.url)
 
 pub by-http-spec : {M : Type 1} → statement M
-by-http-spec = tie.close (tie.spec (λ c κs. search needs) (λ c κs. search needs) returns)
+by-http-spec = tie.close (tie.spec (λ c κs. search rules) (λ c κs. search rules) returns)

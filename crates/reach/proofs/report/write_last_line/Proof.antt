@@ -1,5 +1,5 @@
 -- `report::write_last_line` meets its contract: the word, then the total.
-use Rattle.prelude.proofs.Kit.{arith, needs}
+use Rattle.prelude.proofs.Kit.{arith, rules}
 use Rattle.text.specs.Text.{newline}
 use Rattle.text.proofs.Decimals.{number_room}
 use Rattle.text.proofs.Writing.{wrote_then}
@@ -16,4 +16,4 @@ returns : tie.Need-returns
 returns c = wrote_then c.before.before.before.before.before.before.write_bytes.ensures c.before.before.write-number.ensures
 
 pub write-last-line-spec : {M : Type 1} → statement M
-write-last-line-spec = tie.close (tie.spec (λ c. search needs) (λ c κs. search needs) write-number-requires (λ c. search needs) returns)
+write-last-line-spec = tie.close (tie.spec (λ c. search rules) (λ c κs. search rules) write-number-requires (λ c. search rules) returns)

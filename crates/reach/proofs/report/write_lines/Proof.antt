@@ -1,5 +1,5 @@
 -- `report::write_lines` meets its contract: the lines of the connections, one after another.
-use Rattle.prelude.proofs.Kit.{◌-◌, arith, needs}
+use Rattle.prelude.proofs.Kit.{◌-◌, arith, rules}
 use Rattle.machine.specs.Policy.{connections}
 use Rattle.text.proofs.Pieces.{Listing, listing_begins, room_here, listing_goes_on, listing_ends}
 use Rattle.reach.specs.Report.{line_text, line_room}
@@ -35,12 +35,12 @@ write-lines-spec =
     invariant-loop
     decreases-loop
     loop-holds
-    (λ c. search needs)
-    (λ c. search needs)
-    (λ c. search needs)
+    (λ c. search rules)
+    (λ c. search rules)
+    (λ c. search rules)
     write-pair-requires
-    (λ c. search needs)
-    (λ c. search needs)
+    (λ c. search rules)
+    (λ c. search rules)
     loop-again
     (λ c. c.before.loop.invariant.long)
     returns)

@@ -1,5 +1,5 @@
 -- `report::write_report` meets its contract: the number of a policy that is refused, or the lines and the last one.
-use Rattle.prelude.proofs.Kit.{ℕ, arith, List, sym, subst, needs, now}
+use Rattle.prelude.proofs.Kit.{ℕ, arith, List, sym, subst, rules, now}
 use Rattle.text.specs.Text.{newline, AtFront}
 use Rattle.text.proofs.Decimals.{number_room}
 use Rattle.text.proofs.Writing.{wrote_then, at_front_lem}
@@ -43,10 +43,10 @@ write-report-spec =
     tie.close
     (tie.spec
     write-number-requires
-    (λ c. search needs)
+    (λ c. search rules)
     returns
-    (λ c. search needs)
-    (λ c κs. search needs)
+    (λ c. search rules)
+    (λ c κs. search rules)
     write-last-line-requires
-    (λ c. search needs)
+    (λ c. search rules)
     returns-2)

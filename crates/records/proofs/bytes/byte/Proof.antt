@@ -1,5 +1,5 @@
 -- `bytes::byte` meets its contract.
-use Rattle.prelude.proofs.Kit.{arith, ◌≡◌, sym, needs, now}
+use Rattle.prelude.proofs.Kit.{arith, ◌≡◌, sym, rules, now}
 use Rattle.records.proofs.Slices.{number_none, number_past, number_one}
 use Rattle.records.proofs.bytes.byte.Statement.{statement}
 use Rattle.records.proofs.bytes.byte.Tie as tie
@@ -17,4 +17,4 @@ returns-3 c =
     rw one (sym (number_one (now a.bytes) a.at c.before.if2.false))
 
 pub byte-spec : {M : Type 1} → statement M
-byte-spec = tie.close (tie.spec returns returns-2 (λ c. search needs) returns-3)
+byte-spec = tie.close (tie.spec returns returns-2 (λ c. search rules) returns-3)

@@ -1,5 +1,5 @@
 -- `bytes::put_word` meets its contract.
-use Rattle.prelude.proofs.Kit.{add-zero, arith, ◌≡◌, sym, refl, needs, now, length-set}
+use Rattle.prelude.proofs.Kit.{add-zero, arith, ◌≡◌, sym, refl, rules, now, length-set}
 use Rattle.records.proofs.Slices.{sets_none, sets_four}
 use Rattle.records.proofs.bytes.put_word.Statement.{statement}
 use Rattle.records.proofs.bytes.put_word.Tie as tie
@@ -26,4 +26,4 @@ returns-2 c =
 
 pub put-word-spec : {M : Type 1} → statement M
 put-word-spec =
-    tie.close (tie.spec returns (λ c. search needs) (λ c. search needs) (λ c. search needs) (λ c. search needs) slice-write-out-2 (λ c. search needs) (λ c. search needs) slice-write-out-3 (λ c. search needs) (λ c. search needs) slice-write-out-4 (λ c. search needs) (λ c. search needs) returns-2)
+    tie.close (tie.spec returns (λ c. search rules) (λ c. search rules) (λ c. search rules) (λ c. search rules) slice-write-out-2 (λ c. search rules) (λ c. search rules) slice-write-out-3 (λ c. search rules) (λ c. search rules) slice-write-out-4 (λ c. search rules) (λ c. search rules) returns-2)

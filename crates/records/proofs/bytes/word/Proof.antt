@@ -1,5 +1,5 @@
 -- `bytes::word` meets its contract.
-use Rattle.prelude.proofs.Kit.{arith, ◌≡◌, sym, needs, now}
+use Rattle.prelude.proofs.Kit.{arith, ◌≡◌, sym, rules, now}
 use Rattle.records.proofs.Slices.{number_none, number_four}
 use Rattle.records.proofs.bytes.word.Statement.{statement}
 use Rattle.records.proofs.bytes.word.Tie as tie
@@ -16,4 +16,4 @@ returns-2 c =
 
 pub word-spec : {M : Type 1} → statement M
 word-spec =
-    tie.close (tie.spec returns (λ c. search needs) (λ c κs. search needs) (λ c. search needs) (λ c. search needs) (λ c. search needs) (λ c κs. search needs) (λ c. search needs) (λ c. search needs) (λ c. search needs) (λ c. search needs) (λ c κs. search needs) (λ c. search needs) (λ c. search needs) (λ c. search needs) (λ c. search needs) (λ c κs. search needs) (λ c. search needs) returns-2)
+    tie.close (tie.spec returns (λ c. search rules) (λ c κs. search rules) (λ c. search rules) (λ c. search rules) (λ c. search rules) (λ c κs. search rules) (λ c. search rules) (λ c. search rules) (λ c. search rules) (λ c. search rules) (λ c κs. search rules) (λ c. search rules) (λ c. search rules) (λ c. search rules) (λ c. search rules) (λ c κs. search rules) (λ c. search rules) returns-2)

@@ -1,5 +1,5 @@
 -- `checks::carriable` meets its contract: it asks the three tests in turn.
-use Rattle.prelude.proofs.Kit.{needs, not-false, not-true}
+use Rattle.prelude.proofs.Kit.{rules, not-false, not-true}
 use Rattle.records.specs.Codec.{carriable}
 use Rattle.records.proofs.checks.carriable.Statement.{statement}
 use Rattle.records.proofs.checks.carriable.Tie as tie
@@ -18,4 +18,4 @@ returns-3 c = rw (← c.before.before.before.before.is-map.ensures, not-false c.
 
 pub carriable-spec : {M : Type 1} → statement M
 carriable-spec =
-    tie.close (tie.spec (λ c κs. search needs) returns (λ c κs. search needs) returns-2 (λ c κs. search needs) returns-3)
+    tie.close (tie.spec (λ c κs. search rules) returns (λ c κs. search rules) returns-2 (λ c κs. search rules) returns-3)

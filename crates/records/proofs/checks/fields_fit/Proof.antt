@@ -1,11 +1,11 @@
 -- `checks::fields_fit` meets its contract: what must be 0 of each field, joined, is 0.
-use Rattle.prelude.proofs.Kit.{◌<◌, ◌^◌, arith, ◌≡◌, needs, length}
+use Rattle.prelude.proofs.Kit.{◌<◌, ◌^◌, arith, ◌≡◌, rules, length}
 use Rattle.records.proofs.Encoding.{all_fit}
 use Rattle.records.proofs.checks.fields_fit.Statement.{statement}
 use Rattle.records.proofs.checks.fields_fit.Tie as tie
 
 eight : (s : tie.Start) → length s.args.fields.cookies ≡ 8
-eight s = search needs
+eight s = search rules
 
 bounds : (s : tie.Start)
     → (s.args.fields.url < 256) × (s.args.fields.connection < 256) × (s.args.fields.keys < 256) × (s.args.fields.script < 256)
@@ -34,4 +34,4 @@ returns c =
 
 pub fields-fit-spec : {M : Type 1} → statement M
 fields-fit-spec =
-    tie.close (tie.spec (λ c κs. search needs) (λ c. search needs) (λ c κs. search needs) (λ c κs. search needs) (λ c. search needs) (λ c κs. search needs) (λ c κs. search needs) (λ c. search needs) (λ c κs. search needs) (λ c κs. search needs) (λ c κs. search needs) (λ c. search needs) (λ c κs. search needs) (λ c κs. search needs) (λ c κs. search needs) (λ c κs. search needs) (λ c. search needs) (λ c κs. search needs) returns)
+    tie.close (tie.spec (λ c κs. search rules) (λ c. search rules) (λ c κs. search rules) (λ c κs. search rules) (λ c. search rules) (λ c κs. search rules) (λ c κs. search rules) (λ c. search rules) (λ c κs. search rules) (λ c κs. search rules) (λ c κs. search rules) (λ c. search rules) (λ c κs. search rules) (λ c κs. search rules) (λ c κs. search rules) (λ c κs. search rules) (λ c. search rules) (λ c κs. search rules) returns)

@@ -1,5 +1,5 @@
 -- `checks::keys_zero` meets its contract: its two tests are those of the definition.
-use Rattle.prelude.proofs.Kit.{needs}
+use Rattle.prelude.proofs.Kit.{rules}
 use Rattle.records.specs.Codec.{keys_zero}
 use Rattle.records.specs.Places.{places_of}
 use Rattle.records.proofs.checks.keys_zero.Statement.{statement}
@@ -12,4 +12,4 @@ returns c =
     rw (c.before.before.of.ensures, c.no-key-set.ensures, s.requires.0, s.requires.1)
 
 pub keys-zero-spec : {M : Type 1} → statement M
-keys-zero-spec = tie.close (tie.spec (λ c κs. search needs) (λ c κs. search needs) returns)
+keys-zero-spec = tie.close (tie.spec (λ c κs. search rules) (λ c κs. search rules) returns)

@@ -1,5 +1,5 @@
 -- `checks::no_key_set` meets its contract.
-use Rattle.prelude.proofs.Kit.{arith, ◌≡◌, sym, ◌∙◌, needs}
+use Rattle.prelude.proofs.Kit.{arith, ◌≡◌, sym, ◌∙◌, rules}
 use Rattle.records.specs.Bytes.{bit}
 use Rattle.records.specs.Layout.{cookies_bit}
 use Rattle.records.specs.Codec.{no_key_set}
@@ -21,4 +21,4 @@ returns-2 c =
     rw on
 
 pub no-key-set-spec : {M : Type 1} → statement M
-no-key-set-spec = tie.close (tie.spec (λ c κs. search needs) returns returns-2)
+no-key-set-spec = tie.close (tie.spec (λ c κs. search rules) returns returns-2)

@@ -1,5 +1,5 @@
 -- `checks::stray_cookies` meets its contract: what was met so far is 0 and the values from a key on fit, just where all do.
-use Rattle.prelude.proofs.Kit.{ℕ, ◌-◌, arith, ◌≡◌, needs, get_or}
+use Rattle.prelude.proofs.Kit.{ℕ, ◌-◌, arith, ◌≡◌, rules, get_or}
 use mir.Syntax.{w32}
 use mir.Val.{Fits}
 use Rattle.records.proofs.Cookies.{Testing, testing_begins, testing_goes_on, testing_ends}
@@ -14,10 +14,10 @@ decreases-loop keys values all₀ key₀ all key = 8 - key
 
 -- a cookie value is a word
 word : (s : tie.Start invariant-loop decreases-loop) (key : ℕ) → Fits w32 (get_or s.args.t2 key 0)
-word s key = search needs
+word s key = search rules
 
 loop-holds : tie.Need-loop-init invariant-loop decreases-loop
-loop-holds c = testing_begins c.args.keys c.args.t2 (search needs)
+loop-holds c = testing_begins c.args.keys c.args.t2 (search rules)
 
 loop-again : tie.Need-loop-preserved invariant-loop decreases-loop
 loop-again c =
@@ -35,4 +35,4 @@ returns c =
 
 pub stray-cookies-spec : {M : Type 1} → statement M
 stray-cookies-spec =
-    tie.close (tie.spec invariant-loop decreases-loop loop-holds (λ c κs. search needs) (λ c. search needs) (λ c. search needs) (λ c κs. search needs) (λ c. search needs) (λ c. search needs) loop-again returns)
+    tie.close (tie.spec invariant-loop decreases-loop loop-holds (λ c κs. search rules) (λ c. search rules) (λ c. search rules) (λ c κs. search rules) (λ c. search rules) (λ c. search rules) loop-again returns)

@@ -1,5 +1,5 @@
 -- `fields::key_map` meets its contract: the key map is read at its place.
-use Rattle.prelude.proofs.Kit.{needs, now}
+use Rattle.prelude.proofs.Kit.{rules, now}
 use Rattle.records.specs.Places.{places_of}
 use Rattle.records.proofs.Values.{keys_read}
 use Rattle.records.proofs.fields.key_map.Statement.{statement}
@@ -12,4 +12,4 @@ returns c =
     keys_read (now s.args.bytes) s.args.map c.byte.result s.requires (rw (c.before.before.of.ensures, c.before.bit.ensures.0) at c.byte.ensures)
 
 pub key-map-spec : {M : Type 1} → statement M
-key-map-spec = tie.close (tie.spec (λ c κs. search needs) (λ c κs. search needs) (λ c κs. search needs) returns)
+key-map-spec = tie.close (tie.spec (λ c κs. search rules) (λ c κs. search rules) (λ c κs. search rules) returns)

@@ -1,5 +1,5 @@
 -- `fields::read` meets its contract: each field is read at its place.
-use Rattle.prelude.proofs.Kit.{arith, needs, now}
+use Rattle.prelude.proofs.Kit.{arith, rules, now}
 use Rattle.records.specs.Places.{places_of}
 use Rattle.records.proofs.Values.{fields_read}
 use Rattle.records.proofs.Writing.{size_split, value_within}
@@ -43,4 +43,4 @@ returns c =
 
 pub read_spec : {M : Type 1} → statement M
 read_spec =
-    tie.close (tie.spec (λ c κs. search needs) (λ c κs. search needs) (λ c κs. search needs) (λ c κs. search needs) (λ c κs. search needs) read-cookies-requires (λ c κs. search needs) (λ c κs. search needs) (λ c κs. search needs) word-requires (λ c κs. search needs) (λ c κs. search needs) returns)
+    tie.close (tie.spec (λ c κs. search rules) (λ c κs. search rules) (λ c κs. search rules) (λ c κs. search rules) (λ c κs. search rules) read-cookies-requires (λ c κs. search rules) (λ c κs. search rules) (λ c κs. search rules) word-requires (λ c κs. search rules) (λ c κs. search rules) returns)

@@ -1,5 +1,5 @@
 -- `fields::read_cookies` meets its contract: the values so far, and those that are read from a key on, are all of them.
-use Rattle.prelude.proofs.Kit.{◌-◌, arith, ◌≡◌, needs, now}
+use Rattle.prelude.proofs.Kit.{◌-◌, arith, ◌≡◌, rules, now}
 use Rattle.records.specs.Bytes.{number}
 use Rattle.records.specs.Layout.{widths, split}
 use Rattle.records.specs.Places.{cookie_widths}
@@ -39,4 +39,4 @@ returns-2 c =
 
 pub read-cookies-spec : {M : Type 1} → statement M
 read-cookies-spec =
-    tie.close (tie.spec invariant-loop decreases-loop returns (λ c. search needs) (λ c κs. search needs) word-requires (λ c. search needs) (λ c. search needs) (λ c. search needs) (λ c. search needs) (λ c. search needs) (λ c. search needs) loop-again returns-2)
+    tie.close (tie.spec invariant-loop decreases-loop returns (λ c. search rules) (λ c κs. search rules) word-requires (λ c. search rules) (λ c. search rules) (λ c. search rules) (λ c. search rules) (λ c. search rules) (λ c. search rules) loop-again returns-2)

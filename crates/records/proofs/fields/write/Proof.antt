@@ -1,5 +1,5 @@
 -- `fields::write` meets its contract: the three parts are written one after another, each at its place.
-use Rattle.prelude.proofs.Kit.{◌≤◌, ◌+◌, arith, ◌≡◌, ◌∙◌, ap, needs, now, length}
+use Rattle.prelude.proofs.Kit.{◌≤◌, ◌+◌, arith, ◌≡◌, ◌∙◌, ap, rules, now, length}
 use Rattle.records.specs.declared.places.Places.{Places}
 use Rattle.records.specs.Layout.{start as from, sum, size}
 use Rattle.records.specs.Places.{places_of, cookie_widths, back_widths}
@@ -8,7 +8,7 @@ use Rattle.records.proofs.fields.write.Statement.{statement}
 use Rattle.records.proofs.fields.write.Tie as tie
 
 eight : (s : tie.Start) → length s.args.fields.cookies ≡ 8
-eight s = search needs
+eight s = search rules
 
 abbrev start : tie.After-of → tie.Start
 start m = m.before.before.before
@@ -66,4 +66,4 @@ returns c =
 
 pub write_spec : {M : Type 1} → statement M
 write_spec =
-    tie.close (tie.spec (λ c κs. search needs) write-front-requires write-cookies-requires write-back-requires (λ c. search needs) returns)
+    tie.close (tie.spec (λ c κs. search rules) write-front-requires write-cookies-requires write-back-requires (λ c. search rules) returns)

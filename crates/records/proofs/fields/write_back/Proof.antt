@@ -1,5 +1,5 @@
 -- `fields::write_back` meets its contract: its three fields are written one after another.
-use Rattle.prelude.proofs.Kit.{ℕ, ◌≤◌, ◌+◌, ◌*◌, List, ◌∷◌, [], ap, subst, needs, now, length}
+use Rattle.prelude.proofs.Kit.{ℕ, ◌≤◌, ◌+◌, ◌*◌, List, ◌∷◌, [], ap, subst, rules, now, length}
 use Rattle.records.specs.Bytes.{bit}
 use Rattle.records.specs.Layout.{sum}
 use Rattle.records.proofs.Writing.{back_widths_lem, three}
@@ -17,13 +17,13 @@ abbrev script : tie.After-put-word → tie.After-put-byte
 script m = m.before.before.before.before.before
 
 put-byte-requires : tie.Need-put-byte-requires
-put-byte-requires c κs = let r = room c.before.before.before in search needs
+put-byte-requires c κs = let r = room c.before.before.before in search rules
 
 put-word-requires : tie.Need-put-word-requires
-put-word-requires c κs = let r = room (start c.before.before.before.before) in search needs
+put-word-requires c κs = let r = room (start c.before.before.before.before) in search rules
 
 put-byte-requires-2 : tie.Need-put-byte-requires-2
-put-byte-requires-2 c κs = let r = room (start (script c.before.before.before.before)) in search needs
+put-byte-requires-2 c κs = let r = room (start (script c.before.before.before.before)) in search rules
 
 returns : tie.Need-returns
 returns c =
@@ -38,4 +38,4 @@ returns c =
 
 pub write-back-spec : {M : Type 1} → statement M
 write-back-spec =
-    tie.close (tie.spec (λ c κs. search needs) put-byte-requires (λ c κs. search needs) put-word-requires (λ c κs. search needs) put-byte-requires-2 (λ c. search needs) returns)
+    tie.close (tie.spec (λ c κs. search rules) put-byte-requires (λ c κs. search rules) put-word-requires (λ c κs. search rules) put-byte-requires-2 (λ c. search rules) returns)

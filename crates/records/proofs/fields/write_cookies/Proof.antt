@@ -1,5 +1,5 @@
 -- `fields::write_cookies` meets its contract: what is written from a key on makes the whole.
-use Rattle.prelude.proofs.Kit.{◌-◌, arith, ◌≡◌, needs, now}
+use Rattle.prelude.proofs.Kit.{◌-◌, arith, ◌≡◌, rules, now}
 use Rattle.records.proofs.Cookies.{Writing, writing_begins, writing_goes_on, writing_ends, sum_from}
 use Rattle.records.proofs.fields.write_cookies.Statement.{statement}
 use Rattle.records.proofs.fields.write_cookies.Tie as tie
@@ -13,7 +13,7 @@ decreases-loop out₀ at keys values next₀ key₀ out next key = 8 - key
 loop-holds : tie.Need-loop-init invariant-loop decreases-loop
 loop-holds c =
     let a = c.before.args in
-    writing_begins (now a.out) a.at a.keys a.t4 (search needs) c.before.requires
+    writing_begins (now a.out) a.at a.keys a.t4 (search rules) c.before.requires
 
 put-word-requires : tie.Need-put-word-requires invariant-loop decreases-loop
 put-word-requires c κs =
@@ -40,4 +40,4 @@ returns c =
 
 pub write-cookies-spec : {M : Type 1} → statement M
 write-cookies-spec =
-    tie.close (tie.spec invariant-loop decreases-loop loop-holds (λ c κs. search needs) (λ c. search needs) (λ c. search needs) put-word-requires (λ c. search needs) (λ c. search needs) loop-again (λ c. search needs) returns)
+    tie.close (tie.spec invariant-loop decreases-loop loop-holds (λ c κs. search rules) (λ c. search rules) (λ c. search rules) put-word-requires (λ c. search rules) (λ c. search rules) loop-again (λ c. search rules) returns)

@@ -1,5 +1,5 @@
 -- `fields::write_front` meets its contract: its three fields are written one after another.
-use Rattle.prelude.proofs.Kit.{◌≤◌, ◌+◌, arith, ◌∷◌, [], ◌∙◌, needs, now, length, set, length-set}
+use Rattle.prelude.proofs.Kit.{◌≤◌, ◌+◌, arith, ◌∷◌, [], ◌∙◌, rules, now, length, set, length-set}
 use Rattle.records.specs.Bytes.{bit}
 use Rattle.records.specs.Layout.{sum}
 use Rattle.records.proofs.Writing.{front_widths_lem, front_end, three}
@@ -27,10 +27,10 @@ put-byte-requires : tie.Need-put-byte-requires
 put-byte-requires c κs = (c.bit.ensures.1, simp length-set (omega (arith, room c.before.before.before)))
 
 put-byte-requires-2 : tie.Need-put-byte-requires-2
-put-byte-requires-2 c κs = let r = wide c.before.before.before.before in search needs
+put-byte-requires-2 c κs = let r = wide c.before.before.before.before in search rules
 
 put-byte-requires-3 : tie.Need-put-byte-requires-3
-put-byte-requires-3 c κs = let r = wide (url c.before.before.before.before) in search needs
+put-byte-requires-3 c κs = let r = wide (url c.before.before.before.before) in search rules
 
 same_length : tie.Need-same-length
 same_length c =
@@ -51,4 +51,4 @@ returns c =
 
 pub write-front-spec : {M : Type 1} → statement M
 write-front-spec =
-    tie.close (tie.spec slice-write-out (λ c κs. search needs) put-byte-requires (λ c κs. search needs) put-byte-requires-2 (λ c κs. search needs) put-byte-requires-3 same_length returns)
+    tie.close (tie.spec slice-write-out (λ c κs. search rules) put-byte-requires (λ c κs. search rules) put-byte-requires-2 (λ c κs. search rules) put-byte-requires-3 same_length returns)

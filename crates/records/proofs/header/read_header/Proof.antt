@@ -1,5 +1,5 @@
 -- `header::read_header` meets its contract: at each return the tests that led there say what the header is.
-use Rattle.prelude.proofs.Kit.{false, ◌≡◌, sym, ◌∙◌, refl, ap, needs, not-false, not-true, now}
+use Rattle.prelude.proofs.Kit.{false, ◌≡◌, sym, ◌∙◌, refl, ap, rules, not-false, not-true, now}
 use Rattle.records.specs.Codec.{map_of, map_unknown}
 use Rattle.records.specs.Header.{header}
 use Rattle.records.proofs.Decoding.{map_empty, map_unknown_lem, map_known}
@@ -60,4 +60,4 @@ returns-5 c =
 
 pub read-header-spec : {M : Type 1} → statement M
 read-header-spec =
-    tie.close (tie.spec (λ c κs. search needs) returns (λ c. search needs) (λ c κs. search needs) (λ c κs. search needs) returns-2 (λ c κs. search needs) (λ c κs. search needs) returns-3 (λ c κs. search needs) (λ c κs. search needs) (λ c κs. search needs) returns-4 (λ c κs. search needs) returns-5)
+    tie.close (tie.spec (λ c κs. search rules) returns (λ c. search rules) (λ c κs. search rules) (λ c κs. search rules) returns-2 (λ c κs. search rules) (λ c κs. search rules) returns-3 (λ c κs. search rules) (λ c κs. search rules) (λ c κs. search rules) returns-4 (λ c κs. search rules) returns-5)

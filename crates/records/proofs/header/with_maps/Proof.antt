@@ -1,5 +1,5 @@
 -- `header::with_maps` meets its contract: the place after the last field is the length.
-use Rattle.prelude.proofs.Kit.{ℕ, ap, needs}
+use Rattle.prelude.proofs.Kit.{ℕ, ap, rules}
 use Rattle.prelude.specs.Refusals.{accepted}
 use Rattle.records.specs.declared.places.Places.{Places}
 use Rattle.records.specs.Places.{places_of}
@@ -14,4 +14,4 @@ returns c =
     (ap (λ (p : Places). p.end) c.of.ensures)
 
 pub with-maps-spec : {M : Type 1} → statement M
-with-maps-spec = tie.close (tie.spec (λ c κs. search needs) returns)
+with-maps-spec = tie.close (tie.spec (λ c κs. search rules) returns)

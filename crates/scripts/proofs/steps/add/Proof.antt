@@ -1,5 +1,5 @@
 -- `steps::add` meets its contract: it goes on, or ends, where the definition does.
-use Rattle.prelude.proofs.Kit.{◌<◌, ◌∙◌, refl, needs, now}
+use Rattle.prelude.proofs.Kit.{◌<◌, ◌∙◌, refl, rules, now}
 use Rattle.prelude.proofs.Choices.{chosen, left_out}
 use Rattle.machine.specs.Scripts.{register_count, step}
 use Rattle.scripts.proofs.OneStep.{next, stops, all_named}
@@ -11,22 +11,22 @@ registers : (c : tie.Then1) → (c.before.before.args.register < register_count)
 registers c = all_named _ _ _ c.if1.true
 
 left-place : tie.Need-overflow-mul-wrapping-add-u32
-left-place c = let known = (registers c).1 in search needs
+left-place c = let known = (registers c).1 in search rules
 
 left : tie.Need-slice-read-wrapping-add-u32
-left c = let known = (registers c.before).1 in search needs
+left c = let known = (registers c.before).1 in search rules
 
 right-place : tie.Need-overflow-mul-wrapping-add-u32-2
-right-place c = let known = (registers c.before).2 in search needs
+right-place c = let known = (registers c.before).2 in search rules
 
 right : tie.Need-slice-read-wrapping-add-u32-2
-right c = let known = (registers c.before.before).2 in search needs
+right c = let known = (registers c.before.before).2 in search rules
 
 sum-place : tie.Need-overflow-mul-registers
-sum-place c = let known = (registers c.before.before.before).0 in search needs
+sum-place c = let known = (registers c.before.before.before).0 in search rules
 
 sum : tie.Need-slice-write-registers
-sum c = let known = (registers c.before.before.before).0 in search needs
+sum c = let known = (registers c.before.before.before).0 in search rules
 
 returns : tie.Need-returns
 unfolding step
@@ -44,4 +44,4 @@ returns-2 c =
 
 pub add_spec : {M : Type 1} → statement M
 add_spec =
-    tie.close (tie.spec left-place left right-place right (λ c κs. search needs) sum-place sum (λ c κs. search needs) (λ c. search needs) returns (λ c κs. search needs) returns-2)
+    tie.close (tie.spec left-place left right-place right (λ c κs. search rules) sum-place sum (λ c κs. search rules) (λ c. search rules) returns (λ c κs. search rules) returns-2)

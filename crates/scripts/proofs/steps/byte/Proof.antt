@@ -1,5 +1,5 @@
 -- `steps::byte` meets its contract: a byte of the slice is below 256.
-use Rattle.prelude.proofs.Kit.{arith, refl, needs}
+use Rattle.prelude.proofs.Kit.{arith, refl, rules}
 use Rattle.scripts.proofs.steps.byte.Statement.{statement}
 use Rattle.scripts.proofs.steps.byte.Tie as tie
 
@@ -10,4 +10,4 @@ returns : tie.Need-returns
 returns c = (refl, omega (arith, c.shared-slice-known.given c.before.args.at))
 
 pub byte-spec : {M : Type 1} → statement M
-byte-spec = tie.close (tie.spec (λ c. search needs) cast-result returns)
+byte-spec = tie.close (tie.spec (λ c. search rules) cast-result returns)

@@ -1,5 +1,5 @@
 -- `steps::constant` meets its contract: it goes on, or ends, where the definition does.
-use Rattle.prelude.proofs.Kit.{refl, needs, le-ltb, lt-ltb, now, ltb}
+use Rattle.prelude.proofs.Kit.{refl, rules, le-ltb, lt-ltb, now, ltb}
 use Rattle.prelude.proofs.Choices.{chosen, left_out}
 use Rattle.machine.specs.Scripts.{register_count, step}
 use Rattle.scripts.proofs.OneStep.{next, stops}
@@ -22,4 +22,4 @@ returns-2 c =
 
 pub constant-spec : {M : Type 1} → statement M
 constant-spec =
-    tie.close (tie.spec (λ c. search needs) (λ c. search needs) (λ c κs. search needs) (λ c. search needs) returns (λ c κs. search needs) returns-2)
+    tie.close (tie.spec (λ c. search rules) (λ c. search rules) (λ c κs. search rules) (λ c. search rules) returns (λ c κs. search rules) returns-2)

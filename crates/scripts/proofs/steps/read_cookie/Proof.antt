@@ -1,5 +1,5 @@
 -- `steps::read_cookie` meets its contract: it goes on, or ends, where the definition does.
-use Rattle.prelude.proofs.Kit.{◌<◌, needs, now}
+use Rattle.prelude.proofs.Kit.{◌<◌, rules, now}
 use Rattle.machine.specs.Scripts.{register_count}
 use Rattle.scripts.proofs.OneStep.{named, read_no_key, read_goes_on, read_ends}
 use Rattle.scripts.proofs.steps.read_cookie.Statement.{statement}
@@ -19,10 +19,10 @@ is_register : (m : tie.Then2) → (start m.before).args.register < register_coun
 is_register m = (named _ _ m.if2.true).0
 
 register-place : tie.Need-overflow-mul-registers
-register-place c = let known = is_register c.before in search needs
+register-place c = let known = is_register c.before in search rules
 
 register : tie.Need-slice-write-registers
-register c = let known = is_register c.before in search needs
+register c = let known = is_register c.before in search rules
 
 returns-2 : tie.Need-returns-2
 returns-2 c =
@@ -46,4 +46,4 @@ returns-3 c =
 
 pub read-cookie-spec : {M : Type 1} → statement M
 read-cookie-spec =
-    tie.close (tie.spec (λ c κs. search needs) returns (λ c κs. search needs) (λ c κs. search needs) (λ c κs. search needs) (λ c κs. search needs) register-place register (λ c κs. search needs) (λ c. search needs) returns-2 (λ c κs. search needs) returns-3)
+    tie.close (tie.spec (λ c κs. search rules) returns (λ c κs. search rules) (λ c κs. search rules) (λ c κs. search rules) (λ c κs. search rules) register-place register (λ c κs. search rules) (λ c. search rules) returns-2 (λ c κs. search rules) returns-3)

@@ -1,5 +1,5 @@
 -- `steps::send_request` meets its contract: it goes on, or ends, where the definition does.
-use Rattle.prelude.proofs.Kit.{ℕ, ◌≤◌, arith, true, List, ◌≡◌, sym, ◌∙◌, needs, not-false, not-true, now, length}
+use Rattle.prelude.proofs.Kit.{ℕ, ◌≤◌, arith, true, List, ◌≡◌, sym, ◌∙◌, rules, not-false, not-true, now, length}
 use Rattle.machine.specs.Policy.{is_url}
 use Rattle.machine.specs.Scripts.{requested, goes_on}
 use Rattle.policy.specs.Given.{Url}
@@ -58,7 +58,7 @@ returns-3 c =
     ends m c.ended3.result (λ rs. send_no_handler (now a.policy) a.connection a.position.place rs (now a.state) a.pending.kind a.pending.origin a.pending.handler a.pending.url a.via c.before.if3.true c.ended3.ensures.0) c.ended3.ensures.1
 
 may-send-requires : tie.Need-may-send-requires
-may-send-requires c κs = let url = named c.before.before.before in search needs
+may-send-requires c κs = let url = named c.before.before.before in search rules
 
 returns-4 : tie.Need-returns-4
 returns-4 c =
@@ -92,4 +92,4 @@ returns-5 c =
 
 pub send-request-spec : {M : Type 1} → statement M
 send-request-spec =
-    tie.close (tie.spec (λ c κs. search needs) (λ c κs. search needs) returns (λ c κs. search needs) returns-2 (λ c κs. search needs) returns-3 may-send-requires (λ c κs. search needs) returns-4 send-requires (λ c κs. search needs) (λ c. search needs) (λ c. search needs) returns-5)
+    tie.close (tie.spec (λ c κs. search rules) (λ c κs. search rules) returns (λ c κs. search rules) returns-2 (λ c κs. search rules) returns-3 may-send-requires (λ c κs. search rules) returns-4 send-requires (λ c κs. search rules) (λ c. search rules) (λ c. search rules) returns-5)

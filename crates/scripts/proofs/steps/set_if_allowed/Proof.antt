@@ -1,5 +1,5 @@
 -- `steps::set_if_allowed` meets its contract: the test is the policy's.
-use Rattle.prelude.proofs.Kit.{refl, needs}
+use Rattle.prelude.proofs.Kit.{refl, rules}
 use Rattle.prelude.proofs.Choices.{chosen, left_out}
 use Rattle.scripts.proofs.steps.set_if_allowed.Statement.{statement}
 use Rattle.scripts.proofs.steps.set_if_allowed.Tie as tie
@@ -14,4 +14,4 @@ returns-2 c = left_out c.before.may_write_lem.result _ _ _ c.before.may_write_le
 
 pub set-if-allowed-spec : {M : Type 1} → statement M
 set-if-allowed-spec =
-    tie.close (tie.spec (λ c κs. search needs) (λ c κs. search needs) (λ c. search needs) returns returns-2)
+    tie.close (tie.spec (λ c κs. search rules) (λ c κs. search rules) (λ c. search rules) returns returns-2)

@@ -1,5 +1,5 @@
 -- `steps::skip_if_zero` meets its contract: it goes on, or ends, where the definition does.
-use Rattle.prelude.proofs.Kit.{refl, needs, ne_eqb, le-ltb, lt-ltb, eq-eqb, now, ltb}
+use Rattle.prelude.proofs.Kit.{refl, rules, ne_eqb, le-ltb, lt-ltb, eq-eqb, now, ltb}
 use Rattle.prelude.proofs.Choices.{chosen, left_out}
 use Rattle.machine.specs.Scripts.{register_count, step}
 use Rattle.scripts.proofs.OneStep.{moved, next, stops}
@@ -37,4 +37,4 @@ returns-3 c =
 
 pub skip-if-zero-spec : {M : Type 1} → statement M
 skip-if-zero-spec =
-    tie.close (tie.spec (λ c κs. search needs) returns (λ c. search needs) (λ c. search needs) (λ c κs. search needs) returns-2 (λ c κs. search needs) returns-3)
+    tie.close (tie.spec (λ c κs. search rules) returns (λ c. search rules) (λ c. search rules) (λ c κs. search rules) returns-2 (λ c κs. search rules) returns-3)

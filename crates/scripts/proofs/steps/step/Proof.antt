@@ -1,5 +1,5 @@
 -- `steps::step` meets its contract: the step of the four bytes at the place, by its operation.
-use Rattle.prelude.proofs.Kit.{ℕ, ◌≤◌, arith, List, ◌≡◌, sym, ◌∙◌, refl, needs, now, length}
+use Rattle.prelude.proofs.Kit.{ℕ, ◌≤◌, arith, List, ◌≡◌, sym, ◌∙◌, refl, rules, now, length}
 use Rattle.prelude.specs.Choice.{branch}
 use Rattle.machine.specs.Scripts.{Step, step, step_of, step_at, goes_on}
 use Rattle.session.specs.Output.{output}
@@ -118,4 +118,4 @@ returns-8 c =
 
 pub step_spec : {M : Type 1} → statement M
 step_spec =
-    tie.close (tie.spec (λ c. search needs) (λ c κs. search needs) (λ c. search needs) (λ c κs. search needs) (λ c. search needs) (λ c κs. search needs) (λ c. search needs) (λ c κs. search needs) (λ c. search needs) (λ c. search needs) (λ c. search needs) (λ c κs. search needs) (λ c κs. search needs) (λ c κs. search needs) (λ c κs. search needs) (λ c κs. search needs) (λ c κs. search needs) (λ c κs. search needs) (λ c κs. search needs) (λ c κs. search needs) picture-requires (λ c κs. search needs) (λ c. search needs) returns (λ c. search needs) returns-2 (λ c. search needs) (λ c. search needs) returns-3 (λ c. search needs) (λ c. search needs) returns-4 (λ c. search needs) (λ c. search needs) returns-5 (λ c. search needs) returns-6 (λ c. search needs) (λ c. search needs) returns-7 returns-8)
+    tie.close (tie.spec (λ c. search rules) (λ c κs. search rules) (λ c. search rules) (λ c κs. search rules) (λ c. search rules) (λ c κs. search rules) (λ c. search rules) (λ c κs. search rules) (λ c. search rules) (λ c. search rules) (λ c. search rules) (λ c κs. search rules) (λ c κs. search rules) (λ c κs. search rules) (λ c κs. search rules) (λ c κs. search rules) (λ c κs. search rules) (λ c κs. search rules) (λ c κs. search rules) (λ c κs. search rules) picture-requires (λ c κs. search rules) (λ c. search rules) returns (λ c. search rules) returns-2 (λ c. search rules) (λ c. search rules) returns-3 (λ c. search rules) (λ c. search rules) returns-4 (λ c. search rules) (λ c. search rules) returns-5 (λ c. search rules) returns-6 (λ c. search rules) (λ c. search rules) returns-7 returns-8)

@@ -1,5 +1,5 @@
 -- `steps::write_cookie` meets its contract: it goes on, or ends, where the definition does.
-use Rattle.prelude.proofs.Kit.{refl, needs, now}
+use Rattle.prelude.proofs.Kit.{refl, rules, now}
 use Rattle.machine.specs.Scripts.{register}
 use Rattle.scripts.proofs.OneStep.{write_no_key, write_no_register, write_goes_on}
 use Rattle.scripts.proofs.steps.write_cookie.Statement.{statement}
@@ -29,4 +29,4 @@ returns-3 c =
 
 pub write-cookie-spec : {M : Type 1} → statement M
 write-cookie-spec =
-    tie.close (tie.spec (λ c κs. search needs) returns (λ c κs. search needs) returns-2 (λ c κs. search needs) (λ c. search needs) (λ c. search needs) (λ c κs. search needs) (λ c κs. search needs) (λ c. search needs) returns-3)
+    tie.close (tie.spec (λ c κs. search rules) returns (λ c κs. search rules) returns-2 (λ c κs. search rules) (λ c. search rules) (λ c. search rules) (λ c κs. search rules) (λ c κs. search rules) (λ c. search rules) returns-3)

@@ -1,5 +1,5 @@
 -- `cookies::has` meets its contract: the bit that is shifted down is the one that the definition reads.
-use Rattle.prelude.proofs.Kit.{needs}
+use Rattle.prelude.proofs.Kit.{rules}
 use lib.Bits.{and_mask}
 use Rattle.machine.specs.Session.{has}
 use Rattle.session.proofs.cookies.has.Statement.{statement}
@@ -10,4 +10,4 @@ unfolding has
 returns c = rw (and_mask _ 1)
 
 pub has-spec : {M : Type 1} → statement M
-has-spec = tie.close (tie.spec (λ c. search needs) (λ c. search needs) returns)
+has-spec = tie.close (tie.spec (λ c. search rules) (λ c. search rules) returns)

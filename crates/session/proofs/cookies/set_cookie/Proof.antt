@@ -1,5 +1,5 @@
 -- `cookies::set_cookie` meets its contract: a key added by "or" is one more key that passes.
-use Rattle.prelude.proofs.Kit.{arith, needs, now, length-set}
+use Rattle.prelude.proofs.Kit.{arith, rules, now, length-set}
 use Rattle.machine.specs.Session.{presence, set_cookie}
 use Rattle.policy.proofs.KeyBits.{with_key}
 use Rattle.session.proofs.cookies.set_cookie.Statement.{statement}
@@ -16,4 +16,4 @@ returns c =
 
 pub set-cookie-spec : {M : Type 1} → statement M
 set-cookie-spec =
-    tie.close (tie.spec (λ c κs. search needs) (λ c. search needs) (λ c. search needs) (λ c. search needs) (λ c. search needs) (λ c. search needs) (λ c. search needs) (λ c. search needs) (λ c. search needs) slice-write-state-2 (λ c. search needs) returns)
+    tie.close (tie.spec (λ c κs. search rules) (λ c. search rules) (λ c. search rules) (λ c. search rules) (λ c. search rules) (λ c. search rules) (λ c. search rules) (λ c. search rules) (λ c. search rules) slice-write-state-2 (λ c. search rules) returns)

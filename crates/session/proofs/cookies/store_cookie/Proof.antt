@@ -1,5 +1,5 @@
 -- `cookies::store_cookie` meets its contract: the test is the policy's.
-use Rattle.prelude.proofs.Kit.{refl, needs}
+use Rattle.prelude.proofs.Kit.{refl, rules}
 use Rattle.prelude.proofs.Choices.{chosen, left_out}
 use Rattle.machine.specs.Session.{store_cookie}
 use Rattle.session.proofs.cookies.store_cookie.Statement.{statement}
@@ -17,4 +17,4 @@ returns-2 c = left_out c.before.may-store.result _ _ _ c.before.may-store.ensure
 
 pub store-cookie-spec : {M : Type 1} → statement M
 store-cookie-spec =
-    tie.close (tie.spec (λ c κs. search needs) (λ c κs. search needs) (λ c. search needs) returns returns-2)
+    tie.close (tie.spec (λ c κs. search rules) (λ c κs. search rules) (λ c. search rules) returns returns-2)

@@ -1,5 +1,5 @@
 -- `cookies::store_cookies` meets its contract: the cookies stored so far, and those from a key on, are all of them.
-use Rattle.prelude.proofs.Kit.{◌-◌, zero-le, arith, ◌≡◌, sym, ◌∙◌, refl, needs, now}
+use Rattle.prelude.proofs.Kit.{◌-◌, zero-le, arith, ◌≡◌, sym, ◌∙◌, refl, rules, now}
 use Rattle.prelude.specs.Choice.{branch, keep}
 use Rattle.machine.specs.Policy.{host_keys}
 use Rattle.machine.specs.Session.{store_cookies}
@@ -19,7 +19,7 @@ unfolding store_cookies keep branch
 returns c = rw (c.if1.true, none_has 0, none_has 1, none_has 2, none_has 3, none_has 4, none_has 5, none_has 6, none_has 7)
 
 loop-holds : tie.Need-loop-init invariant-loop decreases-loop
-loop-holds c = record { below = zero-le; long = search needs; remains = refl }
+loop-holds c = record { below = zero-le; long = search rules; remains = refl }
 
 loop-again : tie.Need-loop-preserved invariant-loop decreases-loop
 loop-again c =
@@ -39,4 +39,4 @@ returns-2 c = let l = c.before.loop in let all : l.key ≡ host_keys = omega ari
 
 pub store-cookies-spec : {M : Type 1} → statement M
 store-cookies-spec =
-    tie.close (tie.spec invariant-loop decreases-loop returns loop-holds (λ c. search needs) (λ c. search needs) (λ c κs. search needs) (λ c. search needs) (λ c. search needs) loop-again same_length returns-2)
+    tie.close (tie.spec invariant-loop decreases-loop returns loop-holds (λ c. search rules) (λ c. search rules) (λ c κs. search rules) (λ c. search rules) (λ c. search rules) loop-again same_length returns-2)

@@ -1,5 +1,5 @@
 -- `cookies::store_if_delivered` meets its contract: the test is that the key is in the map.
-use Rattle.prelude.proofs.Kit.{refl, needs}
+use Rattle.prelude.proofs.Kit.{refl, rules}
 use Rattle.prelude.proofs.Choices.{chosen, left_out}
 use Rattle.session.proofs.cookies.store_if_delivered.Statement.{statement}
 use Rattle.session.proofs.cookies.store_if_delivered.Tie as tie
@@ -14,4 +14,4 @@ returns-2 c = left_out c.before.has.result _ _ _ c.before.has.ensures c.if1.fals
 
 pub store-if-delivered-spec : {M : Type 1} → statement M
 store-if-delivered-spec =
-    tie.close (tie.spec (λ c κs. search needs) (λ c κs. search needs) (λ c. search needs) returns returns-2)
+    tie.close (tie.spec (λ c κs. search rules) (λ c κs. search rules) (λ c. search rules) returns returns-2)

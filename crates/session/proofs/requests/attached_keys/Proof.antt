@@ -1,5 +1,5 @@
 -- `requests::attached_keys` meets its contract: of the keys that are present, those that the request may carry.
-use Rattle.prelude.proofs.Kit.{ℕ, List, ◌≡◌, needs, now, and_le_r}
+use Rattle.prelude.proofs.Kit.{ℕ, List, ◌≡◌, rules, now, and_le_r}
 use lib.Bits.{bit_and}
 use native.Mathlib.Nat.{lt_of_le_of_lt, le_refl}
 use Rattle.machine.specs.Policy.{host_keys, url_host, may_carry}
@@ -41,4 +41,4 @@ returns-2 c =
     shared (now (start m).args.policy) (now (start m).args.state) (start m).args.url m.before.url-host.ensures.0 m.presence.ensures c.carried-keys.ensures
 
 pub attached-keys-spec : {M : Type 1} → statement M
-attached-keys-spec = tie.close (tie.spec (λ c κs. search needs) (λ c κs. search needs) returns (λ c κs. search needs) (λ c. search needs) cast-result-2 returns-2)
+attached-keys-spec = tie.close (tie.spec (λ c κs. search rules) (λ c κs. search rules) returns (λ c κs. search rules) (λ c. search rules) cast-result-2 returns-2)

@@ -1,5 +1,5 @@
 -- `requests::attached_values` meets its contract: the values so far, and those from a key on, are all of them.
-use Rattle.prelude.proofs.Kit.{◌-◌, zero-le, arith, ◌≡◌, refl, needs}
+use Rattle.prelude.proofs.Kit.{◌-◌, zero-le, arith, ◌≡◌, refl, rules}
 use Rattle.prelude.specs.Choice.{branch}
 use Rattle.machine.specs.Policy.{host_keys}
 use Rattle.machine.specs.Policy.{cookie_index}
@@ -27,4 +27,4 @@ returns c = let l = c.before.loop in let all : l.key ≡ host_keys = omega arith
 
 pub attached-values-spec : {M : Type 1} → statement M
 attached-values-spec =
-    tie.close (tie.spec invariant-loop decreases-loop loop-holds (λ c κs. search needs) (λ c κs. search needs) (λ c. search needs) (λ c. search needs) (λ c. search needs) (λ c. search needs) loop-again returns)
+    tie.close (tie.spec invariant-loop decreases-loop loop-holds (λ c κs. search rules) (λ c κs. search rules) (λ c. search rules) (λ c. search rules) (λ c. search rules) (λ c. search rules) loop-again returns)

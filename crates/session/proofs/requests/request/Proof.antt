@@ -1,5 +1,5 @@
 -- `requests::request` meets its contract: the fields are those of the definition.
-use Rattle.prelude.proofs.Kit.{arith, needs, now}
+use Rattle.prelude.proofs.Kit.{arith, rules, now}
 use Rattle.session.proofs.Made.{made}
 use Rattle.session.proofs.requests.request.Statement.{statement}
 use Rattle.session.proofs.requests.request.Tie as tie
@@ -14,4 +14,4 @@ returns c =
 
 pub request-spec : {M : Type 1} → statement M
 request-spec =
-    tie.close (tie.spec (λ c κs. search needs) (λ c κs. search needs) (λ c κs. search needs) (λ c κs. search needs) (λ c. search needs) (λ c. search needs) (λ c. search needs) returns)
+    tie.close (tie.spec (λ c κs. search rules) (λ c κs. search rules) (λ c κs. search rules) (λ c κs. search rules) (λ c. search rules) (λ c. search rules) (λ c. search rules) returns)

@@ -1,5 +1,5 @@
 -- `requests::send` meets its contract: the request is written, and then the connection is set.
-use Rattle.prelude.proofs.Kit.{needs}
+use Rattle.prelude.proofs.Kit.{rules}
 use Rattle.session.proofs.requests.send.Statement.{statement}
 use Rattle.session.proofs.requests.send.Tie as tie
 
@@ -12,4 +12,4 @@ returns c =
 
 pub send-spec : {M : Type 1} → statement M
 send-spec =
-    tie.close (tie.spec (λ c κs. search needs) (λ c κs. search needs) (λ c κs. search needs) (λ c κs. search needs) (λ c. search needs) (λ c. search needs) returns)
+    tie.close (tie.spec (λ c κs. search rules) (λ c κs. search rules) (λ c κs. search rules) (λ c κs. search rules) (λ c. search rules) (λ c. search rules) returns)

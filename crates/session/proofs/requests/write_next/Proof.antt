@@ -1,5 +1,5 @@
 -- `requests::write_next` meets its contract: a record written into the lent part of the buffer is the next of the whole.
-use Rattle.prelude.proofs.Kit.{arith, needs, now}
+use Rattle.prelude.proofs.Kit.{arith, rules, now}
 use Rattle.records.specs.Codec.{written}
 use Rattle.session.proofs.Outputs.{next_room, next_written}
 use Rattle.session.proofs.requests.write_next.Statement.{statement}
@@ -22,4 +22,4 @@ returns c =
 
 pub write-next-spec : {M : Type 1} → statement M
 write-next-spec =
-    tie.close (tie.spec (λ c. search needs) (λ c. search needs) (λ c. search needs) (λ c κs. search needs) add-result (λ c. search needs) returns)
+    tie.close (tie.spec (λ c. search rules) (λ c. search rules) (λ c. search rules) (λ c κs. search rules) add-result (λ c. search rules) returns)

@@ -1,5 +1,5 @@
 -- `soundness::connection_sound` meets its contract: a free word, a word whose URL is none or does not fit, and any other by its shape.
-use Rattle.prelude.proofs.Kit.{sym, ◌∙◌, needs, not-false, not-true, now}
+use Rattle.prelude.proofs.Kit.{sym, ◌∙◌, rules, not-false, not-true, now}
 use Rattle.session.proofs.ConnectionTests.{free_sound, no_url, misfit, bare, neither, script}
 use Rattle.session.proofs.soundness.connection_sound.Statement.{statement}
 use Rattle.session.proofs.soundness.connection_sound.Tie as tie
@@ -80,4 +80,4 @@ returns-6 c =
 
 pub connection-sound-spec : {M : Type 1} → statement M
 connection-sound-spec =
-    tie.close (tie.spec returns (λ c κs. search needs) returns-2 fits-requires returns-3 (λ c κs. search needs) returns-4 (λ c κs. search needs) returns-5 (λ c κs. search needs) returns-6)
+    tie.close (tie.spec returns (λ c κs. search rules) returns-2 fits-requires returns-3 (λ c κs. search rules) returns-4 (λ c κs. search rules) returns-5 (λ c κs. search rules) returns-6)

@@ -1,5 +1,5 @@
 -- `soundness::connections_sound` meets its contract: the fours passed are sound, and one that is not fails all.
-use Rattle.prelude.proofs.Kit.{◌≤◌, ◌-◌, zero-le, ◌%◌, arith, true, ⊎_elim, ◌≡◌, sym, ◌∙◌, needs, not-false, not-true, now}
+use Rattle.prelude.proofs.Kit.{◌≤◌, ◌-◌, zero-le, ◌%◌, arith, true, ⊎_elim, ◌≡◌, sym, ◌∙◌, rules, not-false, not-true, now}
 use Rattle.labels.specs.Membership.{all_below}
 use Rattle.labels.proofs.Below.{all_none, part_passed, part_failed}
 use Rattle.machine.specs.Policy.{connections}
@@ -45,4 +45,4 @@ returns-2 c = let past : c.before.loop.first ≡ connections = omega arith in rw
 
 pub connections-sound-spec : {M : Type 1} → statement M
 connections-sound-spec =
-    tie.close (tie.spec invariant-loop decreases-loop loop-holds (λ c κs. search needs) (λ c κs. search needs) returns (λ c. search needs) (λ c. search needs) loop-again returns-2)
+    tie.close (tie.spec invariant-loop decreases-loop loop-holds (λ c κs. search rules) (λ c κs. search rules) returns (λ c. search rules) (λ c. search rules) loop-again returns-2)

@@ -1,5 +1,5 @@
 -- `soundness::four_free` meets its contract: two pairs joined are 0 just where each of the four words is.
-use Rattle.prelude.proofs.Kit.{needs, now}
+use Rattle.prelude.proofs.Kit.{rules, now}
 use Rattle.prelude.proofs.Bits.{or_zero}
 use Rattle.machine.specs.Session.{connection_word}
 use Rattle.session.proofs.Fours.{four_free}
@@ -14,4 +14,4 @@ returns c =
     (four_free a.first (connection_word (now a.state)))
 
 pub four-free-spec : {M : Type 1} → statement M
-four-free-spec = tie.close (tie.spec (λ c κs. search needs) (λ c. search needs) (λ c κs. search needs) returns)
+four-free-spec = tie.close (tie.spec (λ c κs. search rules) (λ c. search rules) (λ c κs. search rules) returns)

@@ -1,5 +1,5 @@
 -- `soundness::four_sound` meets its contract: the connections passed are sound, and one that is not fails the four.
-use Rattle.prelude.proofs.Kit.{◌≤◌, ◌+◌, ◌-◌, zero-le, arith, true, ◌≡◌, sym, ◌∙◌, needs, not-false, not-true, now}
+use Rattle.prelude.proofs.Kit.{◌≤◌, ◌+◌, ◌-◌, zero-le, arith, true, ◌≡◌, sym, ◌∙◌, rules, not-false, not-true, now}
 use Rattle.labels.specs.Membership.{all_below}
 use Rattle.labels.proofs.Below.{all_none, one_passed, one_failed}
 use Rattle.machine.specs.Session.{connection_word, connection_sound}
@@ -39,4 +39,4 @@ returns-2 c = let past : c.before.loop.i ≡ 4 = omega arith in rw past at c.bef
 
 pub four-sound-spec : {M : Type 1} → statement M
 four-sound-spec =
-    tie.close (tie.spec invariant-loop decreases-loop loop-holds (λ c. search needs) (λ c κs. search needs) (λ c κs. search needs) returns (λ c. search needs) (λ c. search needs) loop-again returns-2)
+    tie.close (tie.spec invariant-loop decreases-loop loop-holds (λ c. search rules) (λ c κs. search rules) (λ c κs. search rules) returns (λ c. search rules) (λ c. search rules) loop-again returns-2)

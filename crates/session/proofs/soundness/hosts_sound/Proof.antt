@@ -1,5 +1,5 @@
 -- `soundness::hosts_sound` meets its contract: the two tests at the end, asked of what is gathered so far, are the test of the hosts passed.
-use Rattle.prelude.proofs.Kit.{◌≤◌, ◌-◌, zero-le, arith, ◌&&◌, ◌≡◌, needs, now, ltb}
+use Rattle.prelude.proofs.Kit.{◌≤◌, ◌-◌, zero-le, arith, ◌&&◌, ◌≡◌, rules, now, ltb}
 use Rattle.labels.specs.Addresses.{hosts}
 use Rattle.labels.specs.Membership.{all_below}
 use Rattle.labels.proofs.Below.{all_none}
@@ -36,4 +36,4 @@ returns c =
 
 pub hosts-sound-spec : {M : Type 1} → statement M
 hosts-sound-spec =
-    tie.close (tie.spec invariant-loop decreases-loop loop-holds (λ c κs. search needs) (λ c κs. search needs) (λ c. search needs) (λ c. search needs) loop-again (λ c κs. search needs) returns)
+    tie.close (tie.spec invariant-loop decreases-loop loop-holds (λ c κs. search rules) (λ c κs. search rules) (λ c. search rules) (λ c. search rules) loop-again (λ c κs. search rules) returns)

@@ -1,5 +1,5 @@
 -- `soundness::none_left` meets its contract: the words joined so far, and those from a key on, are 0 just where all are.
-use Rattle.prelude.proofs.Kit.{◌≤◌, ◌-◌, zero-le, arith, ◌&&◌, ◌≡◌, sym, ◌∙◌, refl, needs, eqb, length, drop}
+use Rattle.prelude.proofs.Kit.{◌≤◌, ◌-◌, zero-le, arith, ◌&&◌, ◌≡◌, sym, ◌∙◌, refl, rules, eqb, length, drop}
 use Rattle.machine.specs.Policy.{host_keys}
 use Rattle.session.specs.Strays.{none_left}
 use Rattle.session.proofs.Strays.{word_joined, all_joined}
@@ -13,7 +13,7 @@ abbrev decreases-loop : tie.decreases-loop
 decreases-loop strays all₀ key₀ all key = host_keys - key
 
 loop-holds : tie.Need-loop-init invariant-loop decreases-loop
-loop-holds c = (zero-le, search needs, refl)
+loop-holds c = (zero-le, search rules, refl)
 
 loop-again : tie.Need-loop-preserved invariant-loop decreases-loop
 loop-again c =
@@ -30,4 +30,4 @@ returns c =
 
 pub none-left-spec : {M : Type 1} → statement M
 none-left-spec =
-    tie.close (tie.spec invariant-loop decreases-loop loop-holds (λ c. search needs) (λ c. search needs) (λ c. search needs) (λ c. search needs) loop-again returns)
+    tie.close (tie.spec invariant-loop decreases-loop loop-holds (λ c. search rules) (λ c. search rules) (λ c. search rules) (λ c. search rules) loop-again returns)

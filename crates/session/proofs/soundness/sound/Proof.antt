@@ -1,5 +1,5 @@
 -- `soundness::sound` meets its contract: the length, and the two parts of the test.
-use Rattle.prelude.proofs.Kit.{needs, ne_eqb, eq-eqb, now, length}
+use Rattle.prelude.proofs.Kit.{rules, ne_eqb, eq-eqb, now, length}
 use Rattle.machine.specs.Session.{state_words, sound}
 use Rattle.session.proofs.soundness.sound.Statement.{statement}
 use Rattle.session.proofs.soundness.sound.Tie as tie
@@ -15,4 +15,4 @@ returns-2 c =
     rw (c.before.hosts-sound.ensures, c.connections-sound.ensures, eq-eqb (length (now sized.before.before.before.args.state)) state_words sized.if1.false)
 
 pub sound-spec : {M : Type 1} → statement M
-sound-spec = tie.close (tie.spec returns (λ c κs. search needs) (λ c κs. search needs) returns-2)
+sound-spec = tie.close (tie.spec returns (λ c κs. search rules) (λ c κs. search rules) returns-2)

@@ -1,5 +1,5 @@
 -- `soundness::two_connections` meets its contract: the two words as one are 0 just where each is.
-use Rattle.prelude.proofs.Kit.{◌+◌, needs, now, lit<}
+use Rattle.prelude.proofs.Kit.{◌+◌, rules, now, lit<}
 use Rattle.machine.specs.Session.{connections_at, connection_word}
 use Rattle.policy.proofs.Pairs.{pair_is}
 use Rattle.session.proofs.soundness.two_connections.Statement.{statement}
@@ -15,4 +15,4 @@ returns c =
 
 pub two-connections-spec : {M : Type 1} → statement M
 two-connections-spec =
-    tie.close (tie.spec (λ c κs. search needs) (λ c. search needs) (λ c. search needs) (λ c κs. search needs) (λ c. search needs) (λ c. search needs) (λ c. search needs) returns)
+    tie.close (tie.spec (λ c κs. search rules) (λ c. search rules) (λ c. search rules) (λ c κs. search rules) (λ c. search rules) (λ c. search rules) (λ c. search rules) returns)

@@ -1,5 +1,5 @@
 -- `soundness::with_absent` meets its contract: each value that is joined adds the test of its cookie.
-use Rattle.prelude.proofs.Kit.{◌≤◌, ◌-◌, zero-le, arith, ◌&&◌, ◌≡◌, refl, needs, now, length, length-set}
+use Rattle.prelude.proofs.Kit.{◌≤◌, ◌-◌, zero-le, arith, ◌&&◌, ◌≡◌, refl, rules, now, length, length-set}
 use Rattle.labels.specs.Membership.{all_below}
 use Rattle.labels.proofs.Below.{all_none}
 use Rattle.machine.specs.Policy.{host_keys}
@@ -17,7 +17,7 @@ abbrev decreases-loop : tie.decreases-loop
 decreases-loop state host keys all₀ key₀ all key = host_keys - key
 
 loop-holds : tie.Need-loop-init invariant-loop decreases-loop
-loop-holds c = (zero-le, search needs, rw (← all_none (cookie_sound (now c.before.args.state) c.before.args.host)) refl)
+loop-holds c = (zero-le, search rules, rw (← all_none (cookie_sound (now c.before.args.state) c.before.args.host)) refl)
 
 loop-again : tie.Need-loop-preserved invariant-loop decreases-loop
 unfolding cookie_sound
@@ -36,4 +36,4 @@ returns c = let past : c.before.loop.key ≡ host_keys = omega arith in rw past 
 
 pub with-absent-spec : {M : Type 1} → statement M
 with-absent-spec =
-    tie.close (tie.spec invariant-loop decreases-loop loop-holds (λ c. search needs) (λ c. search needs) (λ c κs. search needs) (λ c κs. search needs) (λ c. search needs) (λ c. search needs) (λ c. search needs) (λ c. search needs) loop-again returns)
+    tie.close (tie.spec invariant-loop decreases-loop loop-holds (λ c. search rules) (λ c. search rules) (λ c κs. search rules) (λ c κs. search rules) (λ c. search rules) (λ c. search rules) (λ c. search rules) (λ c. search rules) loop-again returns)

@@ -1,5 +1,5 @@
 -- `soundness::with_strays_of` meets its contract: a host with every key leaves none.
-use Rattle.prelude.proofs.Kit.{sym, ◌∙◌, needs, now}
+use Rattle.prelude.proofs.Kit.{sym, ◌∙◌, rules, now}
 use Rattle.session.proofs.Strays.{all_present}
 use Rattle.session.proofs.soundness.with_strays_of.Statement.{statement}
 use Rattle.session.proofs.soundness.with_strays_of.Tie as tie
@@ -12,4 +12,4 @@ returns c =
 
 pub with-strays-of-spec : {M : Type 1} → statement M
 with-strays-of-spec =
-    tie.close (tie.spec (λ c κs. search needs) returns (λ c κs. search needs) (λ c. search needs) (λ c κs. search needs) (λ c. search needs))
+    tie.close (tie.spec (λ c κs. search rules) returns (λ c κs. search rules) (λ c. search rules) (λ c κs. search rules) (λ c. search rules))

@@ -1,5 +1,5 @@
 -- `report::write_line_if_any` meets its contract: nothing is written of a URL that has no request.
-use Rattle.prelude.proofs.Kit.{arith, refl, needs}
+use Rattle.prelude.proofs.Kit.{arith, refl, rules}
 use Rattle.usage.specs.Lines.{Line}
 use Rattle.tally.proofs.Listing.{no_line, its_line}
 use Rattle.tally.proofs.report.write_line_if_any.Statement.{statement}
@@ -18,4 +18,4 @@ returns-2 c =
     rw (its_line l c.before.before.before.before.if1.false) c.before.before.write-line.ensures
 
 pub write-line-if-any-spec : {M : Type 1} → statement M
-write-line-if-any-spec = tie.close (tie.spec returns (λ c κs. search needs) (λ c. search needs) returns-2)
+write-line-if-any-spec = tie.close (tie.spec returns (λ c κs. search rules) (λ c. search rules) returns-2)

@@ -1,5 +1,5 @@
 -- `report::write_lines` meets its contract: the lines of the URLs that are left make the whole.
-use Rattle.prelude.proofs.Kit.{◌≤◌, ◌-◌, arith, needs, now}
+use Rattle.prelude.proofs.Kit.{◌≤◌, ◌-◌, arith, rules, now}
 use Rattle.machine.specs.Policy.{url_rows}
 use Rattle.tally.proofs.Listing.{Listing, listing_begins, listing_ends, line_room_lem, listing_goes_on}
 use Rattle.tally.proofs.report.write_lines.Statement.{statement}
@@ -46,14 +46,14 @@ write-lines-spec =
     invariant-loop
     decreases-loop
     loop-holds
-    (λ c. search needs)
-    (λ c. search needs)
-    (λ c. search needs)
-    (λ c. search needs)
-    (λ c. search needs)
+    (λ c. search rules)
+    (λ c. search rules)
+    (λ c. search rules)
+    (λ c. search rules)
+    (λ c. search rules)
     write-line-if-any-requires
-    (λ c. search needs)
-    (λ c. search needs)
+    (λ c. search rules)
+    (λ c. search rules)
     loop-again
     (λ c. c.before.loop.invariant.1.writing.long)
     returns)

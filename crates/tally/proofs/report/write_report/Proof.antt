@@ -1,5 +1,5 @@
 -- `report::write_report` meets its contract: the word of a refused list, or the lines and the last one.
-use Rattle.prelude.proofs.Kit.{ℕ, arith, List, sym, subst, needs, now}
+use Rattle.prelude.proofs.Kit.{ℕ, arith, List, sym, subst, rules, now}
 use Rattle.text.specs.Text.{AtFront}
 use Rattle.text.proofs.Writing.{wrote_then, at_front_lem}
 use Rattle.tally.proofs.Listing.{lines_short, bad_report, good_report}
@@ -37,4 +37,4 @@ returns-2 c =
 
 pub write-report-spec : {M : Type 1} → statement M
 write-report-spec =
-    tie.close (tie.spec (λ c. search needs) (λ c κs. search needs) (λ c. search needs) returns (λ c. search needs) (λ c. search needs) (λ c κs. search needs) write-last-line-requires (λ c. search needs) returns-2)
+    tie.close (tie.spec (λ c. search rules) (λ c κs. search rules) (λ c. search rules) returns (λ c. search rules) (λ c. search rules) (λ c κs. search rules) write-last-line-requires (λ c. search rules) returns-2)

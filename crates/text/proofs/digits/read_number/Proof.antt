@@ -1,5 +1,5 @@
 -- `digits::read_number` meets its contract: digits are read until one is none, and what they make is held to the bound.
-use Rattle.prelude.proofs.Kit.{◌-◌, ◌≡◌, sym, arith, needs, now, length}
+use Rattle.prelude.proofs.Kit.{◌-◌, ◌≡◌, sym, arith, rules, now, length}
 use Rattle.text.proofs.Reading.{Reading, reading_begins, reading_stops, reading_goes_on, below, no_text, too_many, too_large, is_read, is_digit_lem, below_digits, above_digits}
 use Rattle.text.proofs.digits.read_number.Statement.{statement}
 use Rattle.text.proofs.digits.read_number.Tie as tie
@@ -54,15 +54,15 @@ read-number-spec =
     returns
     returns-2
     loop-holds
-    (λ c. search needs)
+    (λ c. search rules)
     returns-3
     returns-4
     mul-n
-    (λ c. search needs)
+    (λ c. search rules)
     add-n
-    (λ c. search needs)
-    (λ c. search needs)
+    (λ c. search rules)
+    (λ c. search rules)
     loop-again
     returns-5
-    (λ c. search needs)
+    (λ c. search rules)
     returns-6)

@@ -1,5 +1,5 @@
 -- `input::next_record` meets its contract: the tests that led to each return say what is at the place.
-use Rattle.prelude.proofs.Kit.{arith, needs, le-ltb, lt-ltb}
+use Rattle.prelude.proofs.Kit.{arith, rules, le-ltb, lt-ltb}
 use Rattle.transcript.proofs.input.next_record.Statement.{statement}
 use Rattle.transcript.proofs.input.next_record.Tie as tie
 
@@ -17,4 +17,4 @@ returns-3 c = simp (lt-ltb _ _ c.before.before.if1.false, le-ltb _ _ c.if2.false
 
 pub next-record-spec : {M : Type 1} → statement M
 next-record-spec =
-    tie.close (tie.spec returns (λ c. search needs) (λ c. search needs) cast-length (λ c. search needs) returns-2 returns-3)
+    tie.close (tie.spec returns (λ c. search rules) (λ c. search rules) cast-length (λ c. search rules) returns-2 returns-3)

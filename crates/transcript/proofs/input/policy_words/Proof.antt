@@ -1,5 +1,5 @@
 -- `input::policy_words` meets its contract: what is left to read from a word on makes the whole.
-use Rattle.prelude.proofs.Kit.{◌-◌, arith, needs}
+use Rattle.prelude.proofs.Kit.{◌-◌, arith, rules}
 use Rattle.machine.specs.Policy.{policy_words}
 use Rattle.transcript.proofs.Words.{Reading, reading_begins, reading_goes_on, reading_ends}
 use Rattle.transcript.proofs.input.policy_words.Statement.{statement}
@@ -12,7 +12,7 @@ abbrev decreases-loop : tie.decreases-loop
 decreases-loop input words₀ i₀ words i = policy_words - i
 
 loop-holds : tie.Need-loop-init invariant-loop decreases-loop
-loop-holds c = reading_begins policy_words _ _ (search needs)
+loop-holds c = reading_begins policy_words _ _ (search rules)
 
 word-requires : tie.Need-word-requires invariant-loop decreases-loop
 word-requires c κs = omega (arith, c.before.before.before.requires)
@@ -30,4 +30,4 @@ returns c = reading_ends policy_words _ _ c.before.loop.i (omega arith) c.before
 
 pub policy-words-spec : {M : Type 1} → statement M
 policy-words-spec =
-    tie.close (tie.spec invariant-loop decreases-loop loop-holds (λ c. search needs) word-requires (λ c. search needs) array-write-words (λ c. search needs) (λ c. search needs) loop-again returns)
+    tie.close (tie.spec invariant-loop decreases-loop loop-holds (λ c. search rules) word-requires (λ c. search rules) array-write-words (λ c. search rules) (λ c. search rules) loop-again returns)

@@ -1,5 +1,5 @@
 -- `input::word` meets its contract.
-use Rattle.prelude.proofs.Kit.{arith, needs, now}
+use Rattle.prelude.proofs.Kit.{arith, rules, now}
 use Rattle.records.proofs.Slices.{number_four}
 use Rattle.transcript.proofs.input.word.Statement.{statement}
 use Rattle.transcript.proofs.input.word.Tie as tie
@@ -12,4 +12,4 @@ returns c =
 
 pub word-spec : {M : Type 1} → statement M
 word-spec =
-    tie.close (tie.spec (λ c. search needs) (λ c κs. search needs) (λ c. search needs) (λ c. search needs) (λ c. search needs) (λ c κs. search needs) (λ c. search needs) (λ c. search needs) (λ c. search needs) (λ c. search needs) (λ c κs. search needs) (λ c. search needs) (λ c. search needs) (λ c. search needs) (λ c. search needs) (λ c κs. search needs) (λ c. search needs) returns)
+    tie.close (tie.spec (λ c. search rules) (λ c κs. search rules) (λ c. search rules) (λ c. search rules) (λ c. search rules) (λ c κs. search rules) (λ c. search rules) (λ c. search rules) (λ c. search rules) (λ c. search rules) (λ c κs. search rules) (λ c. search rules) (λ c. search rules) (λ c. search rules) (λ c. search rules) (λ c κs. search rules) (λ c. search rules) returns)

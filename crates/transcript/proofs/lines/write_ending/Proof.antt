@@ -1,5 +1,5 @@
 -- `lines::write_ending` meets its contract: each word with the space after it.
-use Rattle.prelude.proofs.Kit.{needs}
+use Rattle.prelude.proofs.Kit.{rules}
 use Rattle.transcript.proofs.lines.write_ending.Statement.{statement}
 use Rattle.transcript.proofs.lines.write_ending.Tie as tie
 
@@ -11,4 +11,4 @@ returns-2 c = rw c.before.before.before.before.before.enum-told2.given.1 c.befor
 
 pub write-ending-spec : {M : Type 1} → statement M
 write-ending-spec =
-    tie.close (tie.spec (λ c. search needs) (λ c. search needs) (λ c κs. search needs) (λ c. search needs) (λ c. search needs) (λ c κs. search needs) (λ c. search needs) returns (λ c. search needs) returns-2)
+    tie.close (tie.spec (λ c. search rules) (λ c. search rules) (λ c κs. search rules) (λ c. search rules) (λ c. search rules) (λ c κs. search rules) (λ c. search rules) returns (λ c. search rules) returns-2)

@@ -1,5 +1,5 @@
 -- `lines::write_last_line` meets its contract: the word, then two numbers.
-use Rattle.prelude.proofs.Kit.{arith, ◌∷◌, [], ◌++◌, ◌≡◌, refl, needs, length}
+use Rattle.prelude.proofs.Kit.{arith, ◌∷◌, [], ◌++◌, ◌≡◌, refl, rules, length}
 use Rattle.text.specs.Text.{space}
 use Rattle.text.proofs.Writing.{wrote_then, at_front_lem}
 use Rattle.transcript.specs.declared.input.Ending.{Ending}
@@ -20,4 +20,4 @@ returns : tie.Need-returns
 returns c = at_front_lem (wrote_then c.before.before.before.before.before.before.write-ending.ensures c.before.before.write-pair.ensures)
 
 pub write-last-line-spec : {M : Type 1} → statement M
-write-last-line-spec = tie.close (tie.spec (λ c κs. search needs) write-pair-requires (λ c. search needs) returns)
+write-last-line-spec = tie.close (tie.spec (λ c κs. search rules) write-pair-requires (λ c. search rules) returns)

@@ -1,5 +1,5 @@
 -- `lines::write_record_line` meets its contract: five numbers one after another, each with room for ten digits and the byte that ends it.
-use Rattle.prelude.proofs.Kit.{arith, needs}
+use Rattle.prelude.proofs.Kit.{arith, rules}
 use Rattle.text.proofs.Decimals.{number_room}
 use Rattle.text.proofs.Writing.{wrote_then}
 use Rattle.transcript.proofs.lines.write_record_line.Statement.{statement}
@@ -48,4 +48,4 @@ returns c =
 
 pub write-record-line-spec : {M : Type 1} → statement M
 write-record-line-spec =
-    tie.close (tie.spec write-number-requires write-number-requires-2 write-number-requires-3 write-number-requires-4 write-number-requires-5 (λ c. search needs) returns)
+    tie.close (tie.spec write-number-requires write-number-requires-2 write-number-requires-3 write-number-requires-4 write-number-requires-5 (λ c. search rules) returns)

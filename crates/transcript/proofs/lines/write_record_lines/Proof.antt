@@ -1,5 +1,5 @@
 -- `lines::write_record_lines` meets its contract: the record's line, and the requests' lines after it.
-use Rattle.prelude.proofs.Kit.{ℕ, ◌≤◌, arith, needs, length, length-append}
+use Rattle.prelude.proofs.Kit.{ℕ, ◌≤◌, arith, rules, length, length-append}
 use Rattle.text.specs.Text.{space, newline}
 use Rattle.transcript.specs.Lines.{record_line, record_lines}
 use Rattle.text.proofs.Decimals.{number_room}
@@ -23,4 +23,4 @@ unfolding record_lines
 returns c = at_front_lem (wrote_then c.before.before.before.before.before.before.write-record-line.ensures c.before.before.write-request-lines.ensures)
 
 pub write-record-lines-spec : {M : Type 1} → statement M
-write-record-lines-spec = tie.close (tie.spec (λ c κs. search needs) write-request-lines-requires (λ c. search needs) returns)
+write-record-lines-spec = tie.close (tie.spec (λ c κs. search rules) write-request-lines-requires (λ c. search rules) returns)

@@ -1,5 +1,5 @@
 -- `lines::write_request_lines` meets its contract: the lines that are left to write make the whole.
-use Rattle.prelude.proofs.Kit.{ℕ, ◌≤◌, ◌+◌, ◌-◌, arith, List, ◌≡◌, ◌∙◌, ap, needs, now, length, drop, drop_of_length-le}
+use Rattle.prelude.proofs.Kit.{ℕ, ◌≤◌, ◌+◌, ◌-◌, arith, List, ◌≡◌, ◌∙◌, ap, rules, now, length, drop, drop_of_length-le}
 use Rattle.records.specs.declared.First.{First}
 use Rattle.prelude.proofs.Lists.{rest_is}
 use Rattle.transcript.specs.Lines.{sent_lines}
@@ -59,7 +59,7 @@ loop-less c = omega (arith, (sized (printed c)).0, (sized (printed c)).1)
 loop-again : tie.Need-loop-preserved invariant-loop decreases-loop
 loop-again c =
     let m = printed c in
-    printing_goes_on (start m.before.before).loop.inv (read m.before.before) m.if1.left (search needs) (search needs) c.before.before.before.write-request-line.ensures
+    printing_goes_on (start m.before.before).loop.inv (read m.before.before) m.if1.left (search rules) (search rules) c.before.before.before.write-request-line.ensures
 
 returns-2 : tie.Need-returns-2 invariant-loop decreases-loop
 returns-2 c =
@@ -68,4 +68,4 @@ returns-2 c =
 
 pub write-request-lines-spec : {M : Type 1} → statement M
 write-request-lines-spec =
-    tie.close (tie.spec invariant-loop decreases-loop loop-holds (λ c. search needs) (λ c. search needs) (λ c. search needs) (λ c κs. search needs) (λ c. search needs) returns write-request-line-requires add-from loop-less loop-again (λ c. search needs) returns-2)
+    tie.close (tie.spec invariant-loop decreases-loop loop-holds (λ c. search rules) (λ c. search rules) (λ c. search rules) (λ c κs. search rules) (λ c. search rules) returns write-request-line-requires add-from loop-less loop-again (λ c. search rules) returns-2)

@@ -1,5 +1,5 @@
 -- `lines::write_size_line` meets its contract: each word is written at the front.
-use Rattle.prelude.proofs.Kit.{needs}
+use Rattle.prelude.proofs.Kit.{rules}
 use Rattle.text.proofs.Writing.{at_front_lem}
 use Rattle.transcript.proofs.lines.write_size_line.Statement.{statement}
 use Rattle.transcript.proofs.lines.write_size_line.Tie as tie
@@ -12,4 +12,4 @@ returns-2 c = rw c.before.before.before.before.before.enum-told2.given.1 (at_fro
 
 pub write-size-line-spec : {M : Type 1} → statement M
 write-size-line-spec =
-    tie.close (tie.spec (λ c. search needs) (λ c. search needs) (λ c κs. search needs) (λ c. search needs) (λ c. search needs) (λ c κs. search needs) (λ c. search needs) (λ c. search needs) returns (λ c. search needs) returns-2 (λ c. search needs))
+    tie.close (tie.spec (λ c. search rules) (λ c. search rules) (λ c κs. search rules) (λ c. search rules) (λ c. search rules) (λ c κs. search rules) (λ c. search rules) (λ c. search rules) returns (λ c. search rules) returns-2 (λ c. search rules))
