@@ -24,7 +24,7 @@ unfolding feed_all
 unread_from p scripts s [] typed words fed = refl
 unread_from p scripts s (i ∷ is) typed words fed =
     ap₂ ◌++◌ (ap (λ (r : Reading). r.left) (sent_reads_back p scripts s i.bytes i.buffer typed words fed.0))
-    (unread_from p scripts _ is typed (words_kept p scripts s i.bytes i.buffer typed words fed.0) fed.2)
+    (unread_from p scripts (feed p scripts s i.bytes i.buffer).state is typed (words_kept p scripts s i.bytes i.buffer typed words fed.0) fed.2)
 
 pub nothing_unread : NothingUnread
 unfolding run

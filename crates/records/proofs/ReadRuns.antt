@@ -1,5 +1,5 @@
 -- The run of records that bytes are, one by one: the first of them, and the run of what follows it.
-use Rattle.prelude.proofs.Kit.{ℕ, ◌≤◌, ◌<◌, ◌+◌, ◌-◌, suc, zero, arith, List, ◌∷◌, [], ◌≡◌, sym, ◌∙◌, refl, ap, ne_eqb, eqb, length, take, drop}
+use Rattle.prelude.proofs.Kit.{ℕ, ◌≤◌, ◌<◌, ◌+◌, suc, zero, arith, List, ◌∷◌, [], ◌≡◌, sym, ◌∙◌, refl, ap, ne_eqb, eqb, length, take, drop}
 use Rattle.prelude.proofs.Kit.{length-append, length-drop, ℕ_discrete, true, false, Bool, ◌&&◌, ◌||◌, cond, true≢false, subst, T, ltb, ltb→lt, and_l, and_r}
 use borrow.Author.Tests.{eqb-true}
 use lib.ListN.{take-append-drop}

@@ -155,12 +155,12 @@ unfolding read_at_most decoded read_refusal first_of branch map_unknown first_re
 nothing_left zero d = refl
 nothing_left (suc n) d = rw (take-nil (size (map_of []) (keys_of [])))
 
-read_at_most_lem : (n : ℕ) (d : Direction) {rs : List Record} → AllCarriable d rs → length rs ≤ n → read_at_most n d (joined rs) ≡ record { records = rs; left = [] }
+read_at_most_lem : (d : Direction) (n : ℕ) {rs : List Record} → AllCarriable d rs → length rs ≤ n → read_at_most n d (joined rs) ≡ record { records = rs; left = [] }
 unfolding read_at_most joined
-read_at_most_lem n d none l = nothing_left n d
-read_at_most_lem zero d (more eight ok all) l = absurd (omega arith)
-read_at_most_lem (suc n) d (more {r} {rs} eight ok all) l =
-    rw (first_read d r eight ok (joined rs), decodes d r eight ok, drop_at (bytes_of r) (joined rs) (length (bytes_of r)) refl, read_at_most_lem n d all (omega arith))
+read_at_most_lem d n none l = nothing_left n d
+read_at_most_lem d zero (more eight ok all) l = absurd (omega arith)
+read_at_most_lem d (suc n) (more {r} {rs} eight ok all) l =
+    rw (first_read d r eight ok (joined rs), decodes d r eight ok, drop_at (bytes_of r) (joined rs) (length (bytes_of r)) refl, read_at_most_lem d n all (omega arith))
 
 short : (d : Direction) {rs : List Record} → AllCarriable d rs → length rs ≤ length (joined rs)
 unfolding size joined
@@ -170,7 +170,7 @@ short d (more {r} {rs} eight ok all) = simp length-append (omega (arith, short d
 -- carriable records are read off their joined bytes
 pub joined_read : (d : Direction) (rs : List Record) → AllCarriable d rs → read_run d (joined rs) ≡ record { records = rs; left = [] }
 unfolding read_run
-joined_read d rs all = read_at_most_lem (length (joined rs)) d all (short d all)
+joined_read d rs all = read_at_most_lem d (length (joined rs)) all (short d all)
 
 -- a list whose first record is accepted: its bytes, and the rest in what follows them
 unfoldable pub after : List ℕ → Written → Written
