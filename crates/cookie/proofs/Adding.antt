@@ -1,5 +1,5 @@
 -- Attributes that are added behind a line: its pair stays, and so do its flags where they are neither of the two.
-use Rattle.prelude.proofs.Kit.{ℕ, ◌+◌, ◌-◌, true, Bool, false, true≢false, not, ◌||◌, List, ◌∷◌, [], ◌++◌}
+use Rattle.prelude.proofs.Kit.{ℕ, true, Bool, false, true≢false, not, ◌||◌, List, ◌∷◌, [], ◌++◌}
 use Rattle.prelude.proofs.Kit.{◌≡◌, sym, ◌∙◌, refl, ap, ap₂, T, eqb}
 use Rattle.prelude.specs.Choice.{branch}
 use Rattle.prelude.proofs.Choices.{is_true, is_false}

@@ -1,5 +1,5 @@
 -- The attributes of a line, one after another: those that were passed and those that are left make all.
-use Rattle.prelude.proofs.Kit.{ℕ, ◌≤◌, ◌<◌, ◌+◌, ◌-◌, add-one, arith, true, Bool, false, ◌||◌, List, ◌∷◌, [], ◌≡◌, sym, ◌∙◌, refl, ap, ap₂, length, length-drop, drop, get_or, eqb, drop-cons, drop-drop, drop_of_length-le}
+use Rattle.prelude.proofs.Kit.{ℕ, ◌≤◌, ◌<◌, ◌+◌, add-one, arith, true, Bool, false, ◌||◌, List, ◌∷◌, [], ◌≡◌, sym, ◌∙◌, refl, ap, ap₂, length, length-drop, drop, get_or, eqb, drop-cons, drop-drop, drop_of_length-le}
 use lib.Seq.{get_or-drop}
 use Rattle.prelude.specs.Choice.{branch}
 use Rattle.cookie.specs.Parts.{before}

@@ -1,5 +1,5 @@
 -- The statements of specs/Guarantees.antt hold.
-use Rattle.prelude.proofs.Kit.{ℕ, ◌≤◌, ◌<◌, ◌+◌, ◌-◌, arith, true, Bool, false, not, ◌&&◌, cond, List, ◌∷◌, [], ◌++◌}
+use Rattle.prelude.proofs.Kit.{ℕ, ◌≤◌, ◌<◌, arith, true, Bool, false, not, ◌&&◌, cond, List, ◌∷◌, [], ◌++◌}
 use Rattle.prelude.proofs.Kit.{◌≡◌, sym, ◌∙◌, refl, ap, ap₂, subst, T, eqb, ltb, ltb→lt, and_l, and_r, length}
 use lib.Dec.{leb, leb→le}
 use lib.ListN.{replicate}

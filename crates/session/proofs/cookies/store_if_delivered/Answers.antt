@@ -1,0 +1,12 @@
+-- `cookies::store_if_delivered` meets its contract: the test is that the key is in the map.
+use Rattle.prelude.proofs.Kit.{refl}
+use Rattle.prelude.proofs.Choices.{chosen, left_out}
+use Rattle.session.proofs.cookies.store_if_delivered.Goals as goal
+
+pub returns-then-has : goal.returns-then-has
+returns-then-has c =
+    let test = c in
+    chosen test.has.result _ _ _ test.has.ensures test.if-has.true c.store_cookie.ensures
+
+pub returns-else-has : goal.returns-else-has
+returns-else-has c = left_out c.has.result _ _ _ c.has.ensures c.if-has.false refl
