@@ -1,5 +1,5 @@
 //! Tells cargo where libmonitor.a is, and where a feature is on the library of its name, libusage.a, libcookie.a, libjourneys.a or libreach_table.a:
-//! in the folder that `MONITOR_LIB_DIR` names, or where `rt staticlib` leaves them.
+//! in the folder that `MONITOR_LIB_DIR` names, or where `tools/static-libraries` leaves them.
 
 use std::env;
 use std::path::{Path, PathBuf};
@@ -28,7 +28,7 @@ fn link(name: &str, folder: &Path) {
         println!("cargo::rustc-link-lib=static={name}");
     } else {
         println!(
-            "cargo::error={} is not there: run `rt staticlib {name}`, or set MONITOR_LIB_DIR to the folder that has it",
+            "cargo::error={} is not there: run `tools/static-libraries {name}`, or set MONITOR_LIB_DIR to the folder that has it",
             library.display()
         );
     }

@@ -3,7 +3,7 @@
 //! The monitor stands between a web page and the network. It is fed one record at a time, keeps cookies and pending connections in a
 //! state that the caller lends, runs small scripts, and writes the requests that may go out. It has no memory of its own, allocates
 //! nothing, and answers every content and every length. What is proved is in `libmonitor.a`, which is looked for in the folder that the environment
-//! variable `MONITOR_LIB_DIR` names as this crate is built, or else where `rt staticlib` leaves it.
+//! variable `MONITOR_LIB_DIR` names as this crate is built, or else where `tools/static-libraries` leaves it.
 //!
 //! A [`PolicyBuilder`] makes a policy, and a [`Session`] feeds records under it:
 //!
