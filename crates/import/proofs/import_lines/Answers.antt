@@ -6,32 +6,29 @@ use Rattle.cookie.specs.Parts.{before}
 use Rattle.cookie.proofs.Finding.{found_within, found_front}
 use Rattle.import.specs.Report.{line_text}
 use Rattle.import.proofs.Splitting.{Splitting, splitting_begins, splitting_ends, splitting_goes_on, line_is}
-use Rattle.import.proofs.import_lines.Goals.{After-position-end, At-loop-at}
+use Rattle.import.proofs.import_lines.Goals.{After-position-end}
 use Rattle.import.proofs.import_lines.Goals as goal
 
-abbrev input : At-loop-at → List ℕ
+abbrev input : After-position-end → List ℕ
 input l = l.args.input.now
-
-abbrev input_2 : After-position-end → List ℕ
-input_2 l = l.args.input.now
 
 -- the rest of the input, as it is lent
 abbrev lent : After-position-end → List ℕ
-lent m = let l = m in take (length (input_2 l) - l.loop-at.at) (drop l.loop-at.at (input_2 l))
+lent m = let l = m in take (length (input l) - l.loop-at.at) (drop l.loop-at.at (input l))
 
-length_is : (m : After-position-end) → m.position-end.result ≡ length (before newline (drop m.loop-at.at (input_2 m)))
-length_is m = m.position-end.ensures ∙ ap (λ (rest : List ℕ). length (before newline rest)) (rest_is (input_2 m) m.loop-at.at)
+length_is : (m : After-position-end) → m.position-end.result ≡ length (before newline (drop m.loop-at.at (input m)))
+length_is m = m.position-end.ensures ∙ ap (λ (rest : List ℕ). length (before newline rest)) (rest_is (input m) m.loop-at.at)
 
-line_lent : (m : After-position-end) → take m.position-end.result (lent m) ≡ before newline (drop m.loop-at.at (input_2 m))
-line_lent m = found_front newline _ m.position-end.ensures ∙ ap (before newline) (rest_is (input_2 m) m.loop-at.at)
+line_lent : (m : After-position-end) → take m.position-end.result (lent m) ≡ before newline (drop m.loop-at.at (input m))
+line_lent m = found_front newline _ m.position-end.ensures ∙ ap (before newline) (rest_is (input m) m.loop-at.at)
 
 few : (m : After-position-end) → m.loop-at.nth < 65536
 few m = let l = m in omega (arith, l.loop-at.invariant.few, m.loop-at-test.true, l.requires)
 
-next_within : (m : After-position-end) → m.loop-at.at + m.position-end.result ≤ length (input_2 m)
+next_within : (m : After-position-end) → m.loop-at.at + m.position-end.result ≤ length (input m)
 next_within m =
     let l = m in
-    omega (arith, found_within newline _ m.position-end.ensures, ap length (rest_is (input_2 l) l.loop-at.at), length-drop l.loop-at.at (input_2 l), m.loop-at-test.true)
+    omega (arith, found_within newline _ m.position-end.ensures, ap length (rest_is (input l) l.loop-at.at), length-drop l.loop-at.at (input l), m.loop-at-test.true)
 
 pub loop-at-init : goal.loop-at-init
 loop-at-init c = splitting_begins _
@@ -47,9 +44,9 @@ import_line-requires c =
     let m = c in
     let l = m in
     let a = l.args in
-    let next = splitting_goes_on (input (goal.at.import_line-requires c).At-loop-at) l.loop-at.invariant m.loop-at-test.true in (
+    let next = splitting_goes_on c.args.input.now l.loop-at.invariant m.loop-at-test.true in (
       (omega arith, next.known),
-      ap (line_text (l.loop-at.nth + 1) a.host a.names.now) (line_lent (goal.at.import_line-requires c).After-position-end ∙ sym (line_is (input (goal.at.import_line-requires c).At-loop-at) l.loop-at.invariant m.loop-at-test.true)),
+      ap (line_text (l.loop-at.nth + 1) a.host a.names.now) (line_lent (goal.at.import_line-requires c).After-position-end ∙ sym (line_is c.args.input.now l.loop-at.invariant m.loop-at-test.true)),
     )
 
 pub overflow_add-at : goal.overflow_add-at
@@ -65,8 +62,8 @@ pub loop-at-preserved : goal.loop-at-preserved
 loop-at-preserved c =
     let m = c in
     let l = m in
-    subst (λ (n : ℕ). Splitting (input (goal.at.loop-at-preserved c).At-loop-at) (l.loop-at.at + n + 1) (l.loop-at.nth + 1)) (sym (length_is (goal.at.loop-at-preserved c).After-position-end))
-    (splitting_goes_on (input (goal.at.loop-at-preserved c).At-loop-at) l.loop-at.invariant m.loop-at-test.true)
+    subst (λ (n : ℕ). Splitting c.args.input.now (l.loop-at.at + n + 1) (l.loop-at.nth + 1)) (sym (length_is (goal.at.loop-at-preserved c).After-position-end))
+    (splitting_goes_on c.args.input.now l.loop-at.invariant m.loop-at-test.true)
 
 pub returns : goal.returns
 returns c = splitting_ends _ c.loop-at.invariant c.loop-at-test.false
