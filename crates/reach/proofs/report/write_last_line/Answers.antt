@@ -1,5 +1,5 @@
 -- `report::write_last_line` meets its contract: the word, then the total.
-use Rattle.prelude.proofs.Kit.{arith, rules}
+use Rattle.prelude.proofs.Kit.{arith}
 use Rattle.text.specs.Text.{newline}
 use Rattle.text.proofs.Decimals.{number_room}
 use Rattle.text.proofs.Writing.{wrote_then}

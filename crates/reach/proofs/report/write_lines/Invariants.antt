@@ -1,7 +1,7 @@
 -- `report::write_lines` meets its contract: the lines of the connections, one after another.
-use Rattle.prelude.proofs.Kit.{◌-◌, arith, rules}
+use Rattle.prelude.proofs.Kit.{◌-◌}
 use Rattle.machine.specs.Policy.{connections}
-use Rattle.text.proofs.Pieces.{Listing, listing_begins, room_here, listing_goes_on, listing_ends}
+use Rattle.text.proofs.Pieces.{Listing}
 use Rattle.reach.specs.Report.{line_text, line_room}
 use Rattle.reach.proofs.Room.{line_room_lem}
 use Rattle.reach.proofs.report.write_lines.Given as goal

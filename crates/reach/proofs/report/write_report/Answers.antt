@@ -1,5 +1,5 @@
 -- `report::write_report` meets its contract: the number of a policy that is refused, or the lines and the last one.
-use Rattle.prelude.proofs.Kit.{ℕ, arith, List, sym, subst, rules}
+use Rattle.prelude.proofs.Kit.{ℕ, arith, List, sym, subst}
 use Rattle.text.specs.Text.{newline, AtFront}
 use Rattle.text.proofs.Decimals.{number_room}
 use Rattle.text.proofs.Writing.{wrote_then, at_front_lem}
