@@ -1,7 +1,7 @@
 // Reads Set-Cookie lines from standard input and prints for each the policy word that it settles: docs/IMPORT.md.
 #![tactic(auto)]
 
-ghost use Rattle.std.specs.Prelude.{◌≡◌, ◌+◌, ◌≤◌, length};
+ghost use Rattle.std.specs.Prelude.{◌≡◌, ◌+◌, ◌≤◌, IfOk, length};
 ghost use Rattle.cookie.specs.Import.{names_bytes};
 ghost use Rattle.import.specs.Lines.{lines, IsLine};
 ghost use Rattle.import.specs.Report.{line_text, printed, input_limit};
@@ -11,9 +11,10 @@ mod report;
 
 use cookie::names::{NAME_BYTES, NAMES_BYTES};
 use cookie::parts::position;
-use libc::{STDERR_FILENO, STDIN_FILENO, STDOUT_FILENO};
 use policy::words::HOST_KEYS;
 use report::{LINE_BYTES, write_line};
+use std::env::{Env, FillError};
+use std::io;
 use text::digits::{Value, read_number};
 
 const INPUT_LIMIT: usize = 65_536;
@@ -26,29 +27,38 @@ const FIRST_NAME: usize = 2;
 
 const LONGEST_HOST: usize = 10;
 
-fn main() {
+fn main(rt: HostRuntime) -> io::Result<()> {
     let mut names = [0u8; NAMES_BYTES];
-    if !read_names(&mut names) {
-        print_usage();
-        return;
+    if !read_names(&rt, &mut names) {
+        return print_usage(&rt);
     }
-    match read_host() {
-        Value::Number(host) => import_input(host, &names),
-        Value::Other => print_usage(),
+    match read_host(&rt) {
+        Value::Number(host) => import_input(&rt, host, &names),
+        Value::Other => print_usage(&rt),
     }
 }
 
-fn read_host() -> Value {
+fn read_host(rt: &HostRuntime) -> Value {
     let mut digits = [0u8; LONGEST_HOST];
-    let n = os::arg(1, &mut digits);
+    let n = rt.arg(1, &mut digits).unwrap_or(0);
     read_number(&digits[..n])
 }
 
+// How many arguments there are.
+fn arg_count(rt: &HostRuntime) -> usize {
+    for nth in 0..usize::MAX {
+        if let Err(FillError::NotPresent) = rt.arg(nth, &mut []) {
+            return nth;
+        }
+    }
+    usize::MAX
+}
+
 // Puts each name in its place. Whether there are one to eight, and each fits.
-fn read_names(names: &mut [u8]) -> bool
+fn read_names(rt: &HostRuntime, names: &mut [u8]) -> bool
     requires { length names.old ≡ names_bytes }
 {
-    let count = os::arg_count();
+    let count = arg_count(rt);
     if count <= FIRST_NAME {
         return false;
     }
@@ -58,42 +68,43 @@ fn read_names(names: &mut [u8]) -> bool
     for key in 0..count - FIRST_NAME {
         let start = key * NAME_BYTES;
         let end = start + NAME_BYTES;
-        os::arg(FIRST_NAME + key, &mut names[start..end]);
-        if os::errno() != 0 {
+        if rt.arg(FIRST_NAME + key, &mut names[start..end]).is_err() {
             return false;
         }
     }
     true
 }
 
-fn complain(line: &[u8]) {
-    io::write_all(STDERR_FILENO, line);
+fn complain(rt: &HostRuntime, line: &[u8]) -> io::Result<()> {
+    rt.stderr().write_all(line)
 }
 
-fn print_usage() {
-    complain(b"usage: import HOST NAME.. < LINES\n");
+fn print_usage(rt: &HostRuntime) -> io::Result<()> {
+    complain(rt, b"usage: import HOST NAME.. < LINES\n")?;
     complain(
+        rt,
         b"HOST is 0 to 15. One to eight NAMEs, each of at most 16 bytes, are those of the keys from 0 on.\n",
-    );
+    )?;
     complain(
+        rt,
         b"A line is what stands after the colon of a Set-Cookie header, or the whole header.\n",
-    );
+    )
 }
 
-fn import_input(host: u32, names: &[u8]) {
+fn import_input(rt: &HostRuntime, host: u32, names: &[u8]) -> io::Result<()> {
     let mut input = [0u8; INPUT_ROOM];
-    let n = io::read_full(STDIN_FILENO, &mut input);
+    let n = streams::read_full(&mut rt.stdin(), &mut input)?;
     if INPUT_LIMIT < n {
-        complain(b"import: the lines have more than 65,536 bytes\n");
-        return;
+        return complain(rt, b"import: the lines have more than 65,536 bytes\n");
     }
-    import_lines(host, names, &input[..n]);
+    import_lines(rt, host, names, &input[..n])?;
+    Ok(())
 }
 
 // Prints a line for each line of the input, and answers how many there are.
-fn import_lines(host: u32, names: &[u8], input: &[u8]) -> u32
+fn import_lines(rt: &HostRuntime, host: u32, names: &[u8], input: &[u8]) -> io::Result<u32>
     requires { length input.now ≤ input_limit }
-    ensures { result ≡ length (lines input.now) }
+    ensures { IfOk result (λ n. n ≡ length (lines input.now)) }
 {
     let mut at = 0;
     let mut nth = 0;
@@ -101,23 +112,37 @@ fn import_lines(host: u32, names: &[u8], input: &[u8]) -> u32
         let rest = &input[at..];
         let end = position(rest, b'\n');
         nth = nth + 1;
-        import_line(host, names, input, &rest[..end], nth);
+        import_line(rt, host, names, input, &rest[..end], nth)?;
         at = at + end + 1;
     }
-    nth
+    Ok(nth)
 }
 
-fn import_line(host: u32, names: &[u8], input: &[u8], line: &[u8], nth: u32)
+fn import_line(
+    rt: &HostRuntime,
+    host: u32,
+    names: &[u8],
+    input: &[u8],
+    line: &[u8],
+    nth: u32,
+) -> io::Result<()>
     requires { IsLine input.now nth × (line_text nth host names.now line.now ≡ printed host names.now input.now nth) }
 {
     let mut text = [0u8; LINE_BYTES];
     let end = write_line(&mut text, nth, host, names, line);
-    print(host, names, input, nth, &text[..end]);
+    print(rt, host, names, input, nth, &text[..end])
 }
 
 // The only write to standard output: what goes out is all that is printed of line `nth` of the input, and nothing else.
-fn print(host: u32, names: &[u8], input: &[u8], nth: u32, text: &[u8])
+fn print(
+    rt: &HostRuntime,
+    host: u32,
+    names: &[u8],
+    input: &[u8],
+    nth: u32,
+    text: &[u8],
+) -> io::Result<()>
     requires { IsLine input.now nth × (text.now ≡ printed host names.now input.now nth) }
 {
-    io::write_all(STDOUT_FILENO, text);
+    rt.stdout().write_all(text)
 }

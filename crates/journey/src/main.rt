@@ -7,8 +7,9 @@ ghost use Rattle.journey.specs.Report.{printed};
 mod report;
 
 use journeys::MOST_URLS;
-use libc::{STDERR_FILENO, STDIN_FILENO, STDOUT_FILENO};
 use report::{REPORT_BYTES, write_report};
+use std::env::{Env, FillError};
+use std::io;
 use text::digits::{Value, read_number};
 use transcript::{POLICY_INPUT_ROOM, read_policy};
 
@@ -23,38 +24,51 @@ const LONGEST_NUMBER: usize = 10;
 // A number that no byte has names no URL, and this stands for it, which names none either.
 const NO_URL: u8 = 255;
 
-fn main() {
+fn main(rt: HostRuntime) -> io::Result<()> {
     let mut urls = [0u8; URLS_ROOM];
-    let count = read_urls(&mut urls);
+    let count = read_urls(&rt, &mut urls);
     if count == 0 {
-        print_usage();
-        return;
+        return print_usage(&rt);
     }
     let mut input = [0u8; POLICY_INPUT_ROOM];
-    let n = io::read_full(STDIN_FILENO, &mut input);
-    find(&input[..n], &urls[..count]);
+    let n = streams::read_full(&mut rt.stdin(), &mut input)?;
+    find(&rt, &input[..n], &urls[..count])
 }
 
-fn complain(line: &[u8]) {
-    io::write_all(STDERR_FILENO, line);
+fn complain(rt: &HostRuntime, line: &[u8]) -> io::Result<()> {
+    rt.stderr().write_all(line)
 }
 
-fn print_usage() {
-    complain(b"usage: journey URL.. < POLICY\n");
+fn print_usage(rt: &HostRuntime) -> io::Result<()> {
+    complain(rt, b"usage: journey URL.. < POLICY\n")?;
     complain(
+        rt,
         b"One to 16 URLs, by their numbers, 0 to 63: the first is loaded, each further one reached by redirect.\n",
-    );
-    complain(b"POLICY is a policy's words, four bytes each, most significant first.\n");
+    )?;
+    complain(
+        rt,
+        b"POLICY is a policy's words, four bytes each, most significant first.\n",
+    )
+}
+
+// How many arguments there are.
+fn arg_count(rt: &HostRuntime) -> usize {
+    for nth in 0..usize::MAX {
+        if let Err(FillError::NotPresent) = rt.arg(nth, &mut []) {
+            return nth;
+        }
+    }
+    usize::MAX
 }
 
 // Puts the URL of each argument in its place, as far as there is room, and answers how many those are: 0 where there is none, or an argument is
 // no number.
-fn read_urls(urls: &mut [u8]) -> usize
+fn read_urls(rt: &HostRuntime, urls: &mut [u8]) -> usize
     ensures { result ≤ length urls.old }
 {
     let mut end = 0;
-    for nth in FIRST_URL..os::arg_count() {
-        match read_argument(nth) {
+    for nth in FIRST_URL..arg_count(rt) {
+        match read_argument(rt, nth) {
             Value::Number(url) => {
                 end = put(urls, end, url);
             }
@@ -67,9 +81,9 @@ fn read_urls(urls: &mut [u8]) -> usize
 }
 
 // An argument with more bytes than a number has digits is read as none, which is no number.
-fn read_argument(nth: usize) -> Value {
+fn read_argument(rt: &HostRuntime, nth: usize) -> Value {
     let mut digits = [0u8; LONGEST_NUMBER];
-    let n = os::arg(nth, &mut digits);
+    let n = rt.arg(nth, &mut digits).unwrap_or(0);
     read_number(&digits[..n])
 }
 
@@ -88,17 +102,17 @@ fn put(urls: &mut [u8], end: usize, url: u32) -> usize
     end + 1
 }
 
-fn find(input: &[u8], urls: &[u8]) {
+fn find(rt: &HostRuntime, input: &[u8], urls: &[u8]) -> io::Result<()> {
     let policy = read_policy(input);
     let words = policy.words;
     let mut text = [0u8; REPORT_BYTES];
     let end = write_report(&mut text, &words[..policy.count], urls);
-    print(input, urls, &text[..end]);
+    print(rt, input, urls, &text[..end])
 }
 
 // The only write to standard output: what goes out is all that is printed of the input and the URLs, and nothing else.
-fn print(input: &[u8], urls: &[u8], text: &[u8])
+fn print(rt: &HostRuntime, input: &[u8], urls: &[u8], text: &[u8]) -> io::Result<()>
     requires { text.now ≡ printed input.now urls.now }
 {
-    io::write_all(STDOUT_FILENO, text);
+    rt.stdout().write_all(text)
 }

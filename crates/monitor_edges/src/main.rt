@@ -2,12 +2,12 @@
 // The comments at the top of the file stdin say what a directive is.
 #![tactic(auto)]
 
-ghost use Rattle.std.specs.Prelude.{◌+◌, ◌<◌, ◌≤◌, length};
+ghost use Rattle.std.specs.Prelude.{◌+◌, ◌<◌, ◌≤◌, IfOk, length};
 
-use libc::{STDIN_FILENO, STDOUT_FILENO};
 use monitor::{Answer, OUTPUT_ROOM};
 use policy::words::{NO_PARTNER, PARTNERS_AT, URL_ROWS, WORDS};
 use scripts::TABLE_BYTES;
+use std::io;
 
 // Room for standard input; what does not fit would be missing from the output.
 const TEXT_ROOM: usize = 262_144;
@@ -34,56 +34,64 @@ const LENGTHS: usize = STATE + STATE_ROOM;
 
 const END: usize = LENGTHS + 5;
 
-fn main() {
+fn main(rt: HostRuntime) -> io::Result<()> {
     let mut text = [0u8; TEXT_ROOM];
-    let n = io::read_full(STDIN_FILENO, &mut text);
+    let n = streams::read_full(&mut rt.stdin(), &mut text)?;
     let mut words = [0u32; END];
-    lines(&text[..n], &mut words);
+    lines(&rt, &text[..n], &mut words)
 }
 
-fn print(bytes: &[u8]) {
-    io::write_all(STDOUT_FILENO, bytes);
+fn print(rt: &HostRuntime, bytes: &[u8]) -> io::Result<()> {
+    rt.stdout().write_all(bytes)
 }
 
 // ---- directives
 
-fn lines(text: &[u8], words: &mut [u32]) {
+fn lines(rt: &HostRuntime, text: &[u8], words: &mut [u32]) -> io::Result<()> {
     let mut start = 0;
     for i in 0..text.len() {
-        start = line_end(text, start, i, words);
+        start = line_end(rt, text, start, i, words)?;
     }
+    Ok(())
 }
 
 // Runs the line that ends at i, if one does. Answers where the next one starts.
-fn line_end(text: &[u8], start: usize, i: usize, words: &mut [u32]) -> usize
+fn line_end(
+    rt: &HostRuntime,
+    text: &[u8],
+    start: usize,
+    i: usize,
+    words: &mut [u32],
+) -> io::Result<usize>
     requires start_le_i { start ≤ i }
     requires i_in_bounds { i < length text.now }
-    ensures { result ≤ i + 1 }
+    ensures { IfOk result (λ next. next ≤ i + 1) }
 {
     if text[i] != b'\n' {
-        return start;
+        return Ok(start);
     }
-    line(&text[start..i], words);
-    i + 1
+    line(rt, &text[start..i], words)?;
+    Ok(i + 1)
 }
 
-fn line(text: &[u8], words: &mut [u32]) {
+fn line(rt: &HostRuntime, text: &[u8], words: &mut [u32]) -> io::Result<()> {
     match at(text, 0) {
         b'z' => reset(words),
-        b'p' => set(text, words, 0, SCRIPTS),
-        b's' => set(text, words, SCRIPTS, STATE),
-        b'w' => set(text, words, STATE, LENGTHS),
-        b'l' => set(text, words, LENGTHS, END),
-        b'r' => feed(text, words, true),
-        b't' => feed(text, words, false),
-        b'm' => sweep(text, words),
-        _ => comment(text),
+        b'p' => set(rt, text, words, 0, SCRIPTS)?,
+        b's' => set(rt, text, words, SCRIPTS, STATE)?,
+        b'w' => set(rt, text, words, STATE, LENGTHS)?,
+        b'l' => set(rt, text, words, LENGTHS, END)?,
+        b'r' => feed(rt, text, words, true)?,
+        b't' => feed(rt, text, words, false)?,
+        b'm' => sweep(rt, text, words)?,
+        _ => comment(rt, text)?,
     }
+    Ok(())
 }
 
-fn comment(text: &[u8]) {
-    print(text);
-    print(b"\n");
+fn comment(rt: &HostRuntime, text: &[u8]) -> io::Result<()> {
+    print(rt, text)?;
+    print(rt, b"\n")
 }
 
 fn reset(words: &mut [u32]) {
@@ -114,28 +122,36 @@ fn first_word(i: usize) -> u32 {
 }
 
 // An index into the words from start to end, and the words that go there and after.
-fn set(text: &[u8], words: &mut [u32], start: usize, end: usize)
+fn set(rt: &HostRuntime, text: &[u8], words: &mut [u32], start: usize, end: usize) -> io::Result<()>
     requires { start < 0x1_0000_0000 }
 {
     let mut place = start + number(text, 1);
     for i in 1..text.len() {
-        place = set_next(text, i, words, place, end);
+        place = set_next(rt, text, i, words, place, end)?;
     }
+    Ok(())
 }
 
 // Where a number follows the space at i it goes to the place. Answers the next place.
-fn set_next(text: &[u8], i: usize, words: &mut [u32], place: usize, end: usize) -> usize
+fn set_next(
+    rt: &HostRuntime,
+    text: &[u8],
+    i: usize,
+    words: &mut [u32],
+    place: usize,
+    end: usize,
+) -> io::Result<usize>
     requires { i < length text.now }
 {
     if text[i] != b' ' {
-        return place;
+        return Ok(place);
     }
     if end <= place {
-        print(b"out of range\n");
-        return place;
+        print(rt, b"out of range\n")?;
+        return Ok(place);
     }
     put(words, place, number(text, i + 1) as u32);
-    place + 1
+    Ok(place + 1)
 }
 
 // The hexadecimal number from a place to the next space, or its last eight digits.
@@ -176,7 +192,7 @@ fn put(words: &mut [u32], i: usize, value: u32) {
 // ---- calls
 
 // Feeds the record, two digits to a byte, and shows the directive and what the call did; the state after is kept, or put back.
-fn feed(text: &[u8], words: &mut [u32], kept: bool) {
+fn feed(rt: &HostRuntime, text: &[u8], words: &mut [u32], kept: bool) -> io::Result<()> {
     let mut scripts = [0u8; 4 * STEP_ROOM];
     set_scripts(&mut scripts, words);
     let mut state = [0u32; STATE_ROOM];
@@ -187,12 +203,13 @@ fn feed(text: &[u8], words: &mut [u32], kept: bool) {
     let fill = (word(words, LENGTHS + 4) % 256) as u8;
     let mut out = [fill; OUTPUT_ROOM + SPARE];
     let answer = lend(words, &scripts, &mut state, &record[0..n], &mut out);
-    print(text);
-    show(answer, words, &state);
-    output(answer.bytes as usize, &out, fill);
+    print(rt, text)?;
+    show(rt, answer, words, &state)?;
+    output(rt, answer.bytes as usize, &out, fill)?;
     if kept {
         keep(words, &state);
     }
+    Ok(())
 }
 
 fn keep(words: &mut [u32], state: &[u32]) {
@@ -229,19 +246,20 @@ fn from_hex(bytes: &mut [u8], text: &[u8]) {
 }
 
 // Shows the directive, and feeds its record with each map byte, cut at each length.
-fn sweep(text: &[u8], words: &[u32]) {
-    comment(text);
+fn sweep(rt: &HostRuntime, text: &[u8], words: &[u32]) -> io::Result<()> {
+    comment(rt, text)?;
     let mut record = [0u8; RECORD_ROOM];
     from_hex(&mut record, text);
     let n = least(text.len() / 2, RECORD_ROOM);
-    every_map(words, &mut record[0..n]);
+    every_map(rt, words, &mut record[0..n])
 }
 
-fn every_map(words: &[u32], record: &mut [u8]) {
+fn every_map(rt: &HostRuntime, words: &[u32], record: &mut [u8]) -> io::Result<()> {
     for map in 0..256usize {
         set_map(record, (map % 256) as u8);
-        every_length(words, record, map as u32);
+        every_length(rt, words, record, map as u32)?;
     }
+    Ok(())
 }
 
 fn set_map(record: &mut [u8], map: u8) {
@@ -250,24 +268,25 @@ fn set_map(record: &mut [u8], map: u8) {
     }
 }
 
-fn every_length(words: &[u32], record: &[u8], map: u32) {
+fn every_length(rt: &HostRuntime, words: &[u32], record: &[u8], map: u32) -> io::Result<()> {
     let mut before = 10;
     for length in 0..=record.len() {
         let number = number_of(words, &record[0..length]);
-        row(map, length, before, number);
+        row(rt, map, length, before, number)?;
         before = number;
     }
+    Ok(())
 }
 
 // Shows the number of a length where it is another than at the length before.
-fn row(map: u32, length: usize, before: u32, number: u32) {
+fn row(rt: &HostRuntime, map: u32, length: usize, before: u32, number: u32) -> io::Result<()> {
     if number != before {
-        print_number(map);
-        print(b" ");
-        io::print_decimal(STDOUT_FILENO, length as u64);
-        print_number(number);
-        print(b"\n");
+        print_number(rt, map)?;
+        print!(rt; " {length}")?;
+        print_number(rt, number)?;
+        print(rt, b"\n")?;
     }
+    Ok(())
 }
 
 // The number of a call, of which nothing is kept.
@@ -294,47 +313,44 @@ fn set_state(state: &mut [u32], words: &[u32]) {
 }
 
 // The answer, and the words of the state that changed.
-fn show(answer: Answer, words: &[u32], state: &[u32]) {
-    print(b" :");
-    print_number(answer.number);
-    print_number(answer.bytes);
-    print_number(answer.steps);
-    print_number(answer.missing);
-    print(b" :");
+fn show(rt: &HostRuntime, answer: Answer, words: &[u32], state: &[u32]) -> io::Result<()> {
+    print(rt, b" :")?;
+    print_number(rt, answer.number)?;
+    print_number(rt, answer.bytes)?;
+    print_number(rt, answer.steps)?;
+    print_number(rt, answer.missing)?;
+    print(rt, b" :")?;
     for i in 0..state.len() {
-        change(i, word(words, STATE + i), state[i]);
+        change(rt, i, word(words, STATE + i), state[i])?;
     }
+    Ok(())
 }
 
-fn print_number(n: u32) {
-    print(b" ");
-    io::print_decimal(STDOUT_FILENO, n as u64);
+fn print_number(rt: &HostRuntime, n: u32) -> io::Result<()> {
+    print!(rt; " {n}")
 }
 
-fn change(i: usize, before: u32, after: u32) {
+fn change(rt: &HostRuntime, i: usize, before: u32, after: u32) -> io::Result<()> {
     if before != after {
-        print(b" ");
-        io::print_hex(STDOUT_FILENO, i as u64, 1);
-        print(b"=");
-        io::print_hex(STDOUT_FILENO, after as u64, 1);
+        print!(rt; " {i:x}={after:x}")?;
     }
+    Ok(())
 }
 
 // The bytes of the output that the answer counts, and '!' where one past them changed.
-fn output(n: usize, out: &[u8], fill: u8) {
-    print(b" :");
+fn output(rt: &HostRuntime, n: usize, out: &[u8], fill: u8) -> io::Result<()> {
+    print(rt, b" :")?;
     if out.len() < n {
-        print(b" ?\n");
-        return;
+        print(rt, b" ?\n")?;
+        return Ok(());
     }
     for i in 0..n {
-        print(b" ");
-        io::print_hex(STDOUT_FILENO, at(out, i) as u64, 2);
+        print!(rt; " {:02x}", at(out, i))?;
     }
     if !all(fill, &out[n..]) {
-        print(b" !");
+        print(rt, b" !")?;
     }
-    print(b"\n");
+    print(rt, b"\n")
 }
 
 fn all(byte: u8, bytes: &[u8]) -> bool {

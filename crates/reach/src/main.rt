@@ -7,20 +7,20 @@ ghost use Rattle.reach.specs.Report.{report_room, printed};
 
 mod report;
 
-use libc::{STDIN_FILENO, STDOUT_FILENO};
 use report::{REPORT_BYTES, write_report};
+use std::io;
 use transcript::{POLICY_INPUT_ROOM, read_policy};
 
-fn main() {
+fn main(rt: HostRuntime) -> io::Result<()> {
     let mut input = [0u8; POLICY_INPUT_ROOM];
-    let n = io::read_full(STDIN_FILENO, &mut input);
-    tell(&input[..n]);
+    let n = streams::read_full(&mut rt.stdin(), &mut input)?;
+    tell(&rt, &input[..n])
 }
 
-fn tell(input: &[u8]) {
+fn tell(rt: &HostRuntime, input: &[u8]) -> io::Result<()> {
     let mut text = [0u8; REPORT_BYTES];
     let end = write_reach(&mut text, input);
-    print(input, &text[..end]);
+    print(rt, input, &text[..end])
 }
 
 // All that is printed of an input.
@@ -34,8 +34,8 @@ fn write_reach(text: &mut [u8], input: &[u8]) -> usize
 }
 
 // The only write: what goes out is all that is printed of the input, and nothing else.
-fn print(input: &[u8], text: &[u8])
+fn print(rt: &HostRuntime, input: &[u8], text: &[u8]) -> io::Result<()>
     requires { text.now ≡ printed input.now }
 {
-    io::write_all(STDOUT_FILENO, text);
+    rt.stdout().write_all(text)
 }

@@ -7,29 +7,28 @@
 
 ghost use Rattle.std.specs.Prelude.{◌<◌, ◌≤◌};
 
-use libc::{STDIN_FILENO, STDOUT_FILENO};
 use records::{Direction, Record};
+use std::io;
 
 // Room for standard input; what does not fit would be missing from the output.
 const TEXT_ROOM: usize = 16_384;
 
-fn main() {
-    print(b"input\n");
-    sweep(Direction::Input);
-    print(b"request\n");
-    sweep(Direction::Request);
+fn main(rt: HostRuntime) -> io::Result<()> {
+    print(&rt, b"input\n")?;
+    sweep(&rt, Direction::Input)?;
+    print(&rt, b"request\n")?;
+    sweep(&rt, Direction::Request)?;
     let mut text = [0u8; TEXT_ROOM];
-    let n = io::read_full(STDIN_FILENO, &mut text);
-    lines(&text[..n]);
+    let n = streams::read_full(&mut rt.stdin(), &mut text)?;
+    lines(&rt, &text[..n])
 }
 
-fn print(bytes: &[u8]) {
-    io::write_all(STDOUT_FILENO, bytes);
+fn print(rt: &HostRuntime, bytes: &[u8]) -> io::Result<()> {
+    rt.stdout().write_all(bytes)
 }
 
-fn print_number(n: u32) {
-    print(b" ");
-    io::print_decimal(STDOUT_FILENO, n as u64);
+fn print_number(rt: &HostRuntime, n: u32) -> io::Result<()> {
+    print!(rt; " {n}")
 }
 
 // ---- every map at every length
@@ -101,21 +100,22 @@ fn counts_of(direction: Direction, map: u8, length: usize) -> Counts {
 }
 
 // Shows the counts of a length where they are not those of the length before.
-fn row(map: u8, length: usize, before: Counts, counts: Counts)
+fn row(rt: &HostRuntime, map: u8, length: usize, before: Counts, counts: Counts) -> io::Result<()>
     requires { length < 46 }
 {
     if !same(before, counts) {
-        print_number(wide(map));
-        print_number(length as u32);
-        print_number(counts.accepted);
-        print_number(counts.kind);
-        print_number(counts.keys);
-        print_number(counts.length);
-        print(b"\n");
+        print_number(rt, wide(map))?;
+        print_number(rt, length as u32)?;
+        print_number(rt, counts.accepted)?;
+        print_number(rt, counts.kind)?;
+        print_number(rt, counts.keys)?;
+        print_number(rt, counts.length)?;
+        print(rt, b"\n")?;
     }
+    Ok(())
 }
 
-fn with_map(direction: Direction, map: u8) {
+fn with_map(rt: &HostRuntime, direction: Direction, map: u8) -> io::Result<()> {
     let mut before = Counts {
         accepted: 0,
         kind: 256,
@@ -124,46 +124,49 @@ fn with_map(direction: Direction, map: u8) {
     };
     for length in 0..46usize {
         let counts = counts_of(direction, map, length);
-        row(map, length, before, counts);
+        row(rt, map, length, before, counts)?;
         before = counts;
     }
+    Ok(())
 }
 
-fn sweep(direction: Direction) {
+fn sweep(rt: &HostRuntime, direction: Direction) -> io::Result<()> {
     for map in 0..256usize {
-        with_map(direction, (map % 256) as u8);
+        with_map(rt, direction, (map % 256) as u8)?;
     }
+    Ok(())
 }
 
 // ---- the records of standard input
 
-fn lines(text: &[u8]) {
+fn lines(rt: &HostRuntime, text: &[u8]) -> io::Result<()> {
     let mut start = 0;
     let mut at = 0;
     while at < text.len() {
         if text[at] == b'\n' {
-            line(&text[start..at]);
+            line(rt, &text[start..at])?;
             start = at + 1;
         }
         at += 1;
     }
+    Ok(())
 }
 
 // A line is shown again, with what it comes to.
-fn line(text: &[u8]) {
-    print(text);
+fn line(rt: &HostRuntime, text: &[u8]) -> io::Result<()> {
+    print(rt, text)?;
     let bytes = from_hex(text);
-    answer(at(text, 0), &bytes, text.len() / 3);
-    print(b"\n");
+    answer(rt, at(text, 0), &bytes, text.len() / 3)?;
+    print(rt, b"\n")
 }
 
-fn answer(kind: u8, bytes: &[u8], n: usize) {
+fn answer(rt: &HostRuntime, kind: u8, bytes: &[u8], n: usize) -> io::Result<()> {
     match kind {
-        b'i' => decoded(Direction::Input, bytes, n),
-        b'r' => decoded(Direction::Request, bytes, n),
-        b'I' => tried(Direction::Input, bytes),
-        b'R' => tried(Direction::Request, bytes),
-        _ => print(b""),
+        b'i' => decoded(rt, Direction::Input, bytes, n),
+        b'r' => decoded(rt, Direction::Request, bytes, n),
+        b'I' => tried(rt, Direction::Input, bytes),
+        b'R' => tried(rt, Direction::Request, bytes),
+        _ => print(rt, b""),
     }
 }
 
@@ -187,38 +190,39 @@ fn from_hex(text: &[u8]) -> [u8; 46] {
 }
 
 // Reads the first n of the bytes, shows the answer, and where they are accepted writes them back.
-fn decoded(d: Direction, bytes: &[u8], n: usize) {
+fn decoded(rt: &HostRuntime, d: Direction, bytes: &[u8], n: usize) -> io::Result<()> {
     if bytes.len() < n {
-        return;
+        return Ok(());
     }
     let answer = records::decode(d, &bytes[0..n]);
     let fields = answer.fields;
-    print(b" :");
-    print_number(answer.number);
-    print(b" :");
-    print_fields(fields);
+    print(rt, b" :")?;
+    print_number(rt, answer.number)?;
+    print(rt, b" :")?;
+    print_fields(rt, fields)?;
     if answer.number == 0 {
-        encoded(d, fields, 42);
+        encoded(rt, d, fields, 42)?;
     }
+    Ok(())
 }
 
 // The map, URL, connection, key map, cookie values, script, value and target.
-fn print_fields(r: Record) {
+fn print_fields(rt: &HostRuntime, r: Record) -> io::Result<()> {
     let cookies = r.cookies;
-    print_number(r.map as u32);
-    print_number(r.url as u32);
-    print_number(r.connection as u32);
-    print_number(r.keys as u32);
+    print_number(rt, r.map as u32)?;
+    print_number(rt, r.url as u32)?;
+    print_number(rt, r.connection as u32)?;
+    print_number(rt, r.keys as u32)?;
     for key in 0..8usize {
-        print_number(cookies[key]);
+        print_number(rt, cookies[key])?;
     }
-    print_number(r.script as u32);
-    print_number(r.value);
-    print_number(r.target as u32);
+    print_number(rt, r.script as u32)?;
+    print_number(rt, r.value)?;
+    print_number(rt, r.target as u32)
 }
 
 // Encodes a record with URL 1 and connection 2 whose other fields, and room, the line gives.
-fn tried(d: Direction, b: &[u8]) {
+fn tried(rt: &HostRuntime, d: Direction, b: &[u8]) -> io::Result<()> {
     let first = wide(at(b, 3));
     let last = wide(at(b, 4));
     let fields = Record {
@@ -231,32 +235,38 @@ fn tried(d: Direction, b: &[u8]) {
         value: wide(at(b, 6)),
         target: at(b, 7),
     };
-    encoded(d, fields, at(b, 0) as usize);
+    encoded(rt, d, fields, at(b, 0) as usize)
 }
 
 // Writes the fields into the first `room` bytes of a buffer of 44 that are all 238, and shows the answer and the buffer after.
-fn encoded(d: Direction, r: Record, room: usize) {
+fn encoded(rt: &HostRuntime, d: Direction, r: Record, room: usize) -> io::Result<()> {
     let mut space = [238; 44];
-    encode_within(d, r, &mut space, room);
+    encode_within(rt, d, r, &mut space, room)
 }
 
-fn encode_within(d: Direction, r: Record, space: &mut [u8], room: usize) {
+fn encode_within(
+    rt: &HostRuntime,
+    d: Direction,
+    r: Record,
+    space: &mut [u8],
+    room: usize,
+) -> io::Result<()> {
     if space.len() < room {
-        return;
+        return Ok(());
     }
     let answer = records::encode(d, r, &mut space[0..room]);
-    print(b"\n ");
-    print_number(answer.number);
-    print(b" ");
-    io::print_decimal(STDOUT_FILENO, answer.length as u64);
-    print(b" :");
-    print_bytes(space);
+    print(rt, b"\n ")?;
+    print_number(rt, answer.number)?;
+    print!(rt; " {}", answer.length)?;
+    print(rt, b" :")?;
+    print_bytes(rt, space)
 }
 
-fn print_bytes(bytes: &[u8]) {
+fn print_bytes(rt: &HostRuntime, bytes: &[u8]) -> io::Result<()> {
     for i in 0..bytes.len() {
-        print_number(wide(bytes[i]));
+        print_number(rt, wide(bytes[i]))?;
     }
+    Ok(())
 }
 
 fn wide(b: u8) -> u32 {

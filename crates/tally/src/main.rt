@@ -8,27 +8,27 @@ ghost use Rattle.tally.specs.Report.{report_room, printed};
 
 mod report;
 
-use libc::{STDIN_FILENO, STDOUT_FILENO};
 use report::{REPORT_BYTES, write_report};
+use std::io;
 use usage::LIST_BYTES;
 
 // One byte more than the longest list, so that a longer one is seen.
 const INPUT_ROOM: usize = LIST_BYTES + 1;
 
-fn main() {
+fn main(rt: HostRuntime) -> io::Result<()> {
     let mut input = [0u8; INPUT_ROOM];
-    let n = io::read_full(STDIN_FILENO, &mut input);
-    tally(&input, n);
+    let n = streams::read_full(&mut rt.stdin(), &mut input)?;
+    tally(&rt, &input, n)
 }
 
 // The first bytes of the input were read; a list that fills it is too long.
-fn tally(input: &[u8], n: usize)
+fn tally(rt: &HostRuntime, input: &[u8], n: usize) -> io::Result<()>
     requires { (list_bytes < length input.now) × (n ≤ length input.now) }
 {
     let requests = &input[..n];
     let mut text = [0u8; REPORT_BYTES];
     let end = write_tally(&mut text, requests);
-    print(requests, &text[..end]);
+    print(rt, requests, &text[..end])
 }
 
 // All that is printed of a list of requests.
@@ -40,8 +40,8 @@ fn write_tally(text: &mut [u8], requests: &[u8]) -> usize
 }
 
 // The only write: what goes out is all that is printed of the list, and nothing else.
-fn print(requests: &[u8], text: &[u8])
+fn print(rt: &HostRuntime, requests: &[u8], text: &[u8]) -> io::Result<()>
     requires { text.now ≡ printed requests.now }
 {
-    io::write_all(STDOUT_FILENO, text);
+    rt.stdout().write_all(text)
 }

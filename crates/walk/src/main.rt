@@ -5,8 +5,8 @@
 ghost use Rattle.std.specs.Prelude.{◌≤◌, length};
 ghost use Rattle.transcript.specs.Input.{records_at, input_limit};
 
-use libc::{STDIN_FILENO, STDOUT_FILENO};
 use monitor::{Answer, OUTPUT_ROOM, STATE_WORDS};
+use std::io;
 use transcript::{Counts, Ending, INPUT_LIMIT, InputSize, Next, POLICY_BYTES, RECORDS_AT};
 
 // One byte more than the longest input, so that a longer one is seen.
@@ -15,39 +15,40 @@ const INPUT_ROOM: usize = INPUT_LIMIT + 1;
 // What `transcript` asks for a record's lines.
 const TEXT_BYTES: usize = 55 + 5 * OUTPUT_ROOM;
 
-fn main() {
+fn main(rt: HostRuntime) -> io::Result<()> {
     let mut input = [0u8; INPUT_ROOM];
-    let n = io::read_full(STDIN_FILENO, &mut input);
-    walk(&input[..n]);
+    let n = streams::read_full(&mut rt.stdin(), &mut input)?;
+    walk(&rt, &input[..n])
 }
 
-fn walk(input: &[u8]) {
+fn walk(rt: &HostRuntime, input: &[u8]) -> io::Result<()> {
     let size = transcript::input_size(input);
-    print_size(size);
+    print_size(rt, size)?;
     if let InputSize::Fits = size {
-        feed_input(input);
+        feed_input(rt, input)?;
     }
+    Ok(())
 }
 
-fn print(bytes: &[u8]) {
-    io::write_all(STDOUT_FILENO, bytes);
+fn print(rt: &HostRuntime, bytes: &[u8]) -> io::Result<()> {
+    rt.stdout().write_all(bytes)
 }
 
-fn print_size(size: InputSize) {
+fn print_size(rt: &HostRuntime, size: InputSize) -> io::Result<()> {
     let mut text = [0u8; 6];
     let n = transcript::write_size_line(&mut text, size);
-    print(&text[..n]);
+    print(rt, &text[..n])
 }
 
-fn feed_input(input: &[u8])
+fn feed_input(rt: &HostRuntime, input: &[u8]) -> io::Result<()>
     requires { (records_at ≤ length input.now) × (length input.now ≤ input_limit) }
 {
     let policy = transcript::policy_words(input);
     let mut state = [0u32; STATE_WORDS];
-    feed_records(&policy, input, &mut state);
+    feed_records(rt, &policy, input, &mut state)
 }
 
-fn feed_records(policy: &[u32], input: &[u8], state: &mut [u32])
+fn feed_records(rt: &HostRuntime, policy: &[u32], input: &[u8], state: &mut [u32]) -> io::Result<()>
     requires { (records_at ≤ length input.now) × (length input.now ≤ input_limit) }
 {
     let scripts = &input[POLICY_BYTES..RECORDS_AT];
@@ -61,27 +62,33 @@ fn feed_records(policy: &[u32], input: &[u8], state: &mut [u32])
             Next::Record { start, length } => {
                 let end = start + length;
                 let nth = counts.accepted + counts.refused + 1;
-                let number = feed_record(policy, scripts, state, &input[start..end], nth);
+                let number = feed_record(rt, policy, scripts, state, &input[start..end], nth)?;
                 counts = transcript::counted(counts, number);
                 at = end;
             }
             Next::Last(ending) => {
-                print_last(ending, counts);
-                return;
+                return print_last(rt, ending, counts);
             }
         }
     }
 }
 
 // Feeds one record, prints its lines and answers the number of the monitor's answer.
-fn feed_record(policy: &[u32], scripts: &[u8], state: &mut [u32], bytes: &[u8], nth: u32) -> u32 {
+fn feed_record(
+    rt: &HostRuntime,
+    policy: &[u32],
+    scripts: &[u8],
+    state: &mut [u32],
+    bytes: &[u8],
+    nth: u32,
+) -> io::Result<u32> {
     let mut out = [0u8; OUTPUT_ROOM];
     let answer = monitor::monitor_feed(policy, scripts, state, bytes, &mut out);
-    print_answer(nth, answer, &out);
-    answer.number
+    print_answer(rt, nth, answer, &out)?;
+    Ok(answer.number)
 }
 
-fn print_answer(nth: u32, answer: Answer, out: &[u8])
+fn print_answer(rt: &HostRuntime, nth: u32, answer: Answer, out: &[u8]) -> io::Result<()>
     requires { (answer.bytes ≤ length out.now) × (length out.now ≤ OUTPUT_ROOM) }
 {
     let sent = answer.bytes as usize;
@@ -95,11 +102,11 @@ fn print_answer(nth: u32, answer: Answer, out: &[u8])
         answer.missing,
         &out[..sent],
     );
-    print(&text[..n]);
+    print(rt, &text[..n])
 }
 
-fn print_last(ending: Ending, counts: Counts) {
+fn print_last(rt: &HostRuntime, ending: Ending, counts: Counts) -> io::Result<()> {
     let mut text = [0u8; 26];
     let n = transcript::write_last_line(&mut text, ending, counts);
-    print(&text[..n]);
+    print(rt, &text[..n])
 }

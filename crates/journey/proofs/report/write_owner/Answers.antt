@@ -1,0 +1,12 @@
+-- `report::write_owner` meets its contract: the URL or the connection, with its number.
+use Rattle.journey.proofs.report.write_owner.Goals as goal
+
+pub returns-then-of_url : goal.returns-then-of_url
+returns-then-of_url c =
+    let w = c in
+    rw w.if-of_url.true w.write_labelled.ensures
+
+pub returns : goal.returns
+returns c =
+    let w = c in
+    rw w.if-of_url.false w.write_labelled-2.ensures
