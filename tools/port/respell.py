@@ -42,8 +42,15 @@ for p in antt:
 clash_kit = sorted(n for n in own if n in KIT)
 for n in clash_kit: del own[n]
 M = {n: snake(n) for n in own}
-BY_HAND = {'ofUrl': 'of_url_number', 'httpOnly': 'http_only_at'}
+BY_HAND = {'ofUrl': 'of_url_number', 'httpOnly': 'http_only_at', 'casesAToJ': 'cases_from_a_to_j'}
 M.update({n: m for n, m in BY_HAND.items() if n in M})
+# constructors, other names of imports, and variables
+M.update({'mapBit': 'map_bit', 'keyBit': 'key_bit', 'ranTwoHosts': 'ran_two_hosts', 'secrecyExamples': 'secrecy_examples',
+    'integrityExamples': 'integrity_examples', 'httpsAlone': 'https_alone', 'toEntry': 'to_entry', 'redirectToEntry': 'redirect_to_entry',
+    'carriedByUrl': 'carried_by_url', 'carriedBy': 'carried_by', 'allRecords': 'records_in_all', 'allCookies': 'cookies_in_all',
+    'sameKeys': 'keys_same', 'sameValues': 'values_same'})
+for n in ('mapBit', 'keyBit', 'ranTwoHosts', 'secrecyExamples', 'integrityExamples', 'httpsAlone', 'toEntry', 'redirectToEntry', 'carriedByUrl',
+        'carriedBy', 'allRecords', 'allCookies', 'sameKeys', 'sameValues'): own.setdefault(n, [])
 # every name that we declare, as it stands
 D = {}
 for p in lemma_files:

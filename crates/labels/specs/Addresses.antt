@@ -27,4 +27,4 @@ event_set address = cond (ltb address endpoints) (only (event_endpoint address))
 
 -- The endpoints of a host, by membership: https there, and http unless https alone is asked for. A number above 15 is no host, and has none.
 unfoldable pub host_endpoints : ℕ → Bool → Membership
-host_endpoints host httpsAlone a = ltb host hosts && (eqb a (hosts + host) || (not httpsAlone && eqb a host))
+host_endpoints host https_alone a = ltb host hosts && (eqb a (hosts + host) || (not https_alone && eqb a host))

@@ -33,8 +33,8 @@ abbrev cookie_with : List ℕ → ℕ → Cookie
 cookie_with values k = record { key = k; value = get_or values k 0 }
 
 module _ (see : ℕ → Bool) (keys keys' : ℕ) (values values' : List ℕ)
-    (sameKeys : (k : ℕ) → k < host_keys → T (see k) → has keys k ≡ has keys' k)
-    (sameValues : (k : ℕ) → k < host_keys → T (see k) → T (has keys k) → get_or values k 0 ≡ get_or values' k 0) where
+    (keys_same : (k : ℕ) → k < host_keys → T (see k) → has keys k ≡ has keys' k)
+    (values_same : (k : ℕ) → k < host_keys → T (see k) → T (has keys k) → get_or values k 0 ≡ get_or values' k 0) where
   abbrev looks : Cookie → Bool
   looks c = see c.key
 
@@ -51,8 +51,8 @@ module _ (see : ℕ → Bool) (keys keys' : ℕ) (values values' : List ℕ)
   alike (k ∷ ks) below =
       let rest = alike ks below.1 in
       ⊎_elim
-      (λ (t : T (see k)). two (λ (l m : List ℕ). keep looks (map (cookie_with values) l) ≡ keep looks (map (cookie_with values') m)) (has keys k) (has keys' k) (sameKeys k below.0 t)
-      (λ b. ap₂ (λ (v : ℕ) (l : List Cookie). branch (see k) (record { key = k; value = v } ∷ l) l) (sameValues k below.0 t b) rest)
+      (λ (t : T (see k)). two (λ (l m : List ℕ). keep looks (map (cookie_with values) l) ≡ keep looks (map (cookie_with values') m)) (has keys k) (has keys' k) (keys_same k below.0 t)
+      (λ b. ap₂ (λ (v : ℕ) (l : List Cookie). branch (see k) (record { key = k; value = v } ∷ l) l) (values_same k below.0 t b) rest)
       (λ _. rest))
       (λ (t : T (not (see k))). skips k (has keys k) values (keep (has keys) ks) t ∙ rest ∙ sym (skips k (has keys' k) values' (keep (has keys') ks) t))
       (either (see k))

@@ -226,8 +226,8 @@ case_e = call bring_seven 0 1 [] seven_stored
 abbrev pub case_f : Call
 case_f = call load_zero 0 0 (0x07 ∷ 0x00 ∷ 0x00 ∷ 0x01 ∷ 0x00 ∷ 0x00 ∷ 0x00 ∷ 0x07 ∷ []) (loading 0 0 ∷ seven_stored)
 
-abbrev pub cases_aTo_j : List Case
-cases_aTo_j =
+abbrev pub cases_from_a_to_j : List Case
+cases_from_a_to_j =
     -- a; e; f
     from_empty (case_a ∷ case_e ∷ case_f ∷ [])
     -- b
@@ -255,4 +255,4 @@ cases_aTo_j =
     ∷ []
 
 abbrev pub CasesAToJ : Type 0
-CasesAToJ = T (all_right policy_p cases_aTo_j)
+CasesAToJ = T (all_right policy_p cases_from_a_to_j)

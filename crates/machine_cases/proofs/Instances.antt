@@ -11,10 +11,10 @@ use Rattle.machine_cases.specs.SecrecyExamples.{http_host_one, policy_two_hosts,
 use Rattle.machine.specs.Integrity.{unforged}
 use Rattle.machine.proofs.Secrecy.{secrecy}
 use Rattle.machine.proofs.Integrity.{integrity, honest_state}
-use Rattle.machine_cases.proofs.SecrecyExamples.{examples as secrecyExamples}
+use Rattle.machine_cases.proofs.SecrecyExamples.{examples as secrecy_examples}
 use Rattle.machine_cases.specs.IntegrityExamples.{forger, policy_top_up, scripts_top_up, refused_policy, forger_at_work, forger_elsewhere}
 use Rattle.machine_cases.specs.Instances.{SecrecySpeaks, IntegritySpeaks, HonestStateSpeaks}
-use Rattle.machine_cases.proofs.IntegrityExamples.{examples as integrityExamples}
+use Rattle.machine_cases.proofs.IntegrityExamples.{examples as integrity_examples}
 
 -- ---- fed as is asked
 
@@ -22,7 +22,7 @@ abbrev ready : Item → Bool
 ready i = are_bytes i.bytes && ltb 1183 (length i.buffer)
 
 room : output_room ≡ 1184
-unfolding secrecyExamples
+unfolding secrecy_examples
 room = refl
 
 feedable : (is : List Item) → T (every ready is) → Feedable is
@@ -33,20 +33,20 @@ feedable (i ∷ is) t = (search parts, omega (arith, room, ltb→lt 1183 (length
 -- ---- secrecy
 
 scripts_two_hosts_lem : T (are_bytes scripts_two_hosts)
-unfolding secrecyExamples
+unfolding secrecy_examples
 scripts_two_hosts_lem = tt
 
 with_hidden_lem : T (every ready with_hidden)
-unfolding secrecyExamples every
+unfolding secrecy_examples every
 with_hidden_lem = tt
 
 without_hidden_lem : T (every ready without_hidden)
-unfolding secrecyExamples every
+unfolding secrecy_examples every
 without_hidden_lem = tt
 
 same_shown :
     remaining (shown http_host_one policy_two_hosts) policy_two_hosts with_hidden ≡ remaining (shown http_host_one policy_two_hosts) policy_two_hosts without_hidden
-unfolding secrecyExamples
+unfolding secrecy_examples
 same_shown = refl
 
 pub secrecy_speaks : SecrecySpeaks
@@ -57,37 +57,37 @@ secrecy_speaks =
 -- ---- integrity
 
 scripts_top_up_lem : T (are_bytes scripts_top_up)
-unfolding integrityExamples
+unfolding integrity_examples
 scripts_top_up_lem = tt
 
 at_work : T (every ready forger_at_work)
-unfolding integrityExamples every
+unfolding integrity_examples every
 at_work = tt
 
 elsewhere : T (every ready forger_elsewhere)
-unfolding integrityExamples every
+unfolding integrity_examples every
 elsewhere = tt
 
 same_unforged :
     remaining (unforged forger policy_top_up) policy_top_up forger_at_work ≡ remaining (unforged forger policy_top_up) policy_top_up forger_elsewhere
-unfolding integrityExamples
+unfolding integrity_examples
 same_unforged = refl
 
 none_unforged :
     remaining (unforged forger refused_policy) refused_policy forger_at_work ≡ remaining (unforged forger refused_policy) refused_policy forger_elsewhere
-unfolding integrityExamples
+unfolding integrity_examples
 none_unforged = refl
 
 refused : T (not (well_formed refused_policy))
-unfolding integrityExamples
+unfolding integrity_examples
 refused = tt
 
 honest_cookie : T (misses (cookie_writers policy_top_up (cookie_index 2 3)) forger)
-unfolding integrityExamples
+unfolding integrity_examples
 honest_cookie = tt
 
 honest_connection : T (misses (connection_writers policy_top_up 8) forger)
-unfolding integrityExamples
+unfolding integrity_examples
 honest_connection = tt
 
 fed : Feedable forger_at_work

@@ -5,14 +5,14 @@ use Rattle.machine.specs.Session.{present, cookie_value, connection_word}
 use Rattle.machine.specs.Secrecy.{observations}
 use Rattle.machine.specs.Integrity.{guarded_requests}
 use Rattle.machine_cases.specs.SecrecyExamples.{http_host_one, policy_two_hosts, with_hidden, without_hidden}
-use Rattle.machine_cases.specs.SecrecyExamples.{ran as ranTwoHosts}
+use Rattle.machine_cases.specs.SecrecyExamples.{ran as ran_two_hosts}
 use Rattle.machine_cases.specs.IntegrityExamples.{forger, policy_top_up, forger_at_work, forger_elsewhere, ran, ran_refused}
 
 -- the requests that the set sees
 abbrev pub SecrecySpeaks : Type 0
 SecrecySpeaks =
-    observations http_host_one policy_two_hosts (ranTwoHosts with_hidden).requests
-    ≡ observations http_host_one policy_two_hosts (ranTwoHosts without_hidden).requests
+    observations http_host_one policy_two_hosts (ran_two_hosts with_hidden).requests
+    ≡ observations http_host_one policy_two_hosts (ran_two_hosts without_hidden).requests
 
 -- the guarded requests; and all requests, under the policy that 2 refuses
 abbrev pub IntegritySpeaks : Type 0

@@ -258,12 +258,12 @@ load_alone = 0x03 ∷ 0x00 ∷ 0x01 ∷ []
 -- A script's request for URL 21, one on connection 6, a redirect to URL 21: each is refused, or ends the script. A script's request for the entry,
 -- and a redirect there, go out, though the entry's writers miss the set: it is excused.
 unfoldable pub entry_is_excused : Trace → Trace → Trace → Trace → Trace → Bool
-entry_is_excused script other redirect toEntry redirectToEntry =
+entry_is_excused script other redirect to_entry redirect_to_entry =
     causes (with_script 5) script load_alone
     && (causes (with_script 6) other load_alone
     && (causes (redirected_to 21) redirect load_alone
-    && (causes (with_script 3) toEntry (load_alone ++ (0x0b ∷ 0x0c ∷ 0x01 ∷ 0x04 ∷ []))
-    && causes (redirected_to 12) redirectToEntry (load_alone ++ (0x03 ∷ 0x0c ∷ 0x01 ∷ [])))))
+    && (causes (with_script 3) to_entry (load_alone ++ (0x0b ∷ 0x0c ∷ 0x01 ∷ 0x04 ∷ []))
+    && causes (redirected_to 12) redirect_to_entry (load_alone ++ (0x03 ∷ 0x0c ∷ 0x01 ∷ [])))))
 
 -- ---- lists that differ in what is honest
 

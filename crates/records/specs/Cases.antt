@@ -4,7 +4,7 @@ use Rattle.prelude.specs.Choice.{every}
 use Rattle.records.specs.declared.Direction.{Direction}
 use Rattle.records.specs.declared.Direction.TheVariants.{Input, Request}
 use Rattle.records.specs.Bytes.{bit}
-use Rattle.records.specs.Layout.{Guard, mapBit, keyBit, Field, layout, maps, sum, values}
+use Rattle.records.specs.Layout.{Guard, map_bit, key_bit, Field, layout, maps, sum, values}
 use Rattle.records.specs.Codec.{decoded}
 
 -- bytes that are refused with a number
@@ -69,8 +69,8 @@ MalformedRecords = T (every gives malformed_records)
 -- ---- the bits of a map
 
 abbrev pub bit_of : Guard → List ℕ
-bit_of (mapBit b) = b ∷ []
-bit_of (keyBit k) = []
+bit_of (map_bit b) = b ∷ []
+bit_of (key_bit k) = []
 
 -- the bits of the map that say that a part is carried
 abbrev pub part_bits : List Field → List ℕ

@@ -12,7 +12,7 @@ pub data Part : Type 0 where
 
 -- A field is carried where a bit is set: of the map, or of the key map.
 pub data Guard : Type 0 where
-  mapBit keyBit : ℕ → Guard
+  map_bit key_bit : ℕ → Guard
 
 pub record Field : Type 0 where
   pub part : Part
@@ -27,7 +27,7 @@ abbrev pub key_numbers : List ℕ
 key_numbers = 0 ∷ 1 ∷ 2 ∷ 3 ∷ 4 ∷ 5 ∷ 6 ∷ 7 ∷ []
 
 abbrev pub cookie_field : ℕ → Field
-cookie_field k = field (cookie k) (keyBit k) 4
+cookie_field k = field (cookie k) (key_bit k) 4
 
 -- the bit of the map that says that cookies follow
 abbrev pub cookies_bit : ℕ
@@ -36,14 +36,14 @@ cookies_bit = 2
 -- THE LAYOUT: which part, the bit that says that it is carried, and how many bytes it has; in the order of the bytes.
 abbrev pub layout : List Field
 layout =
-    field url (mapBit 0) 1
-    ∷ field connection (mapBit 1) 1
-    ∷ field key_map (mapBit cookies_bit) 1
+    field url (map_bit 0) 1
+    ∷ field connection (map_bit 1) 1
+    ∷ field key_map (map_bit cookies_bit) 1
     ∷ (map cookie_field key_numbers
-    ++ (field script (mapBit 3) 1
-    ∷ field value (mapBit 4) 4
-    ∷ field target (mapBit 5) 1
-    ∷ field picture (mapBit 6) 0
+    ++ (field script (map_bit 3) 1
+    ∷ field value (map_bit 4) 4
+    ∷ field target (map_bit 5) 1
+    ∷ field picture (map_bit 6) 0
     ∷ []))
 
 -- The map bytes. Inputs: document 01's load; document answer, script answer, redirect and picture answer, each with cookies or without.
@@ -98,8 +98,8 @@ maps Request =
 
 -- 1 where a field is carried, 0 where not
 abbrev pub carried : Guard → ℕ → ℕ → ℕ
-carried (mapBit b) m keys = bit m b
-carried (keyBit k) m keys = bit keys k
+carried (map_bit b) m keys = bit m b
+carried (key_bit k) m keys = bit keys k
 
 -- how many bytes each field has under a map and a key map: none where it is not carried
 unfoldable pub widths : ℕ → ℕ → List ℕ

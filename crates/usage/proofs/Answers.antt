@@ -23,14 +23,14 @@ module _ (requests : List ℕ) where
   all_good l e = rw (none_applies accepted (list_refusals requests) (le-ltb list_bytes (length requests) l, (ap not e, tt)))
 
 -- counts by weight
-pub weighed : (rs : List Record) {by carriedBy : List ℕ} {n m : ℕ}
+pub weighed : (rs : List Record) {by carried_by : List ℕ} {n m : ℕ}
     → by ≡ map (λ u. weight one (requests_to u rs)) urls
-    → carriedBy ≡ map (λ u. weight carried (requests_to u rs)) urls
+    → carried_by ≡ map (λ u. weight carried (requests_to u rs)) urls
     → n ≡ weight one rs
     → m ≡ weight carried rs
-    → record { number = accepted; records = by; cookies = carriedBy; all_records = n; all_cookies = m } ≡ counts rs
+    → record { number = accepted; records = by; cookies = carried_by; all_records = n; all_cookies = m } ≡ counts rs
 unfolding counts cookies_in
-weighed rs {by} {carriedBy} {n} {m} eb ec en em =
+weighed rs {by} {carried_by} {n} {m} eb ec en em =
     let same : map (λ u. weight one (requests_to u rs)) urls ≡ map (λ u. length (requests_to u rs)) urls = λ i. map (λ u. length_weight (requests_to u rs) i) urls in
     let records = eb ∙ same in
     let total = en ∙ length_weight rs in

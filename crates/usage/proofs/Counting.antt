@@ -86,11 +86,11 @@ module _ (w : Record → ℕ) where
 -- ---- the list of bytes
 
 -- `from` bytes are counted: the requests that are left are read off the rest of them
-pub record Counting (requests by_url carriedByUrl : List ℕ) (allRecords allCookies from : ℕ) : Type 0 where
+pub record Counting (requests by_url carried_by_url : List ℕ) (records_in_all cookies_in_all from : ℕ) : Type 0 where
   pub below : from ≤ length requests
   pub same : good (read_run Request (drop from requests)) ≡ good (read_run Request requests)
-  pub records : Counted one (read_run Request requests).records (read_run Request (drop from requests)).records by_url allRecords
-  pub cookies : Counted carried (read_run Request requests).records (read_run Request (drop from requests)).records carriedByUrl allCookies
+  pub records : Counted one (read_run Request requests).records (read_run Request (drop from requests)).records by_url records_in_all
+  pub cookies : Counted carried (read_run Request requests).records (read_run Request (drop from requests)).records carried_by_url cookies_in_all
 
 module _ {requests : List ℕ} where
   pub counting_begins : Counting requests (replicate url_rows 0) (replicate url_rows 0) 0 0 0
@@ -98,7 +98,7 @@ module _ {requests : List ℕ} where
       let all = (read_run Request requests).records in
       record { below = omega arith; same = refl; records = counted_begins one all; cookies = counted_begins carried all }
 
-  module _ {by_url carriedByUrl : List ℕ} {allRecords allCookies from : ℕ} (c : Counting requests by_url carriedByUrl allRecords allCookies from) where
+  module _ {by_url carried_by_url : List ℕ} {records_in_all cookies_in_all from : ℕ} (c : Counting requests by_url carried_by_url records_in_all cookies_in_all from) where
     abbrev left : List ℕ
     left = drop from requests
 
@@ -106,14 +106,14 @@ module _ {requests : List ℕ} where
     pub counting_ends : length requests ≤ from
         → (good (read_run Request requests) ≡ true)
         × (by_url ≡ map (λ u. weight one (requests_to u (read_run Request requests).records)) urls)
-        × (carriedByUrl ≡ map (λ u. weight carried (requests_to u (read_run Request requests).records)) urls)
-        × (allRecords ≡ weight one (read_run Request requests).records)
-        × (allCookies ≡ weight carried (read_run Request requests).records)
+        × (carried_by_url ≡ map (λ u. weight carried (requests_to u (read_run Request requests).records)) urls)
+        × (records_in_all ≡ weight one (read_run Request requests).records)
+        × (cookies_in_all ≡ weight carried (read_run Request requests).records)
     unfolding good every
     counting_ends h =
         let end : read_run Request left ≡ nothing [] = ap (read_run Request) (drop_of_length-le requests h) ∙ run_end Request in
-        let records = counted_ends one (subst (λ (run : Run). Counted one (read_run Request requests).records run.records by_url allRecords) end c.records) in
-        let cookies = counted_ends carried (subst (λ (run : Run). Counted carried (read_run Request requests).records run.records carriedByUrl allCookies) end c.cookies) in
+        let records = counted_ends one (subst (λ (run : Run). Counted one (read_run Request requests).records run.records by_url records_in_all) end c.records) in
+        let cookies = counted_ends carried (subst (λ (run : Run). Counted carried (read_run Request requests).records run.records carried_by_url cookies_in_all) end c.cookies) in
         (sym c.same ∙ ap good end, records.0, cookies.0, records.1, cookies.1)
 
     -- the next bytes are not a request
@@ -155,11 +155,11 @@ module _ {requests : List ℕ} where
       pub out_of_range : in_range d.fields ≡ false → good (read_run Request requests) ≡ false
       out_of_range e = good_next ∙ rw e (and-false (eqb (length (read_run Request rest).left) 0))
 
-      records_left : Counted one (read_run Request requests).records (d.fields ∷ (read_run Request rest).records) by_url allRecords
-      records_left = subst (λ (run : Run). Counted one (read_run Request requests).records run.records by_url allRecords) next c.records
+      records_left : Counted one (read_run Request requests).records (d.fields ∷ (read_run Request rest).records) by_url records_in_all
+      records_left = subst (λ (run : Run). Counted one (read_run Request requests).records run.records by_url records_in_all) next c.records
 
-      cookies_left : Counted carried (read_run Request requests).records (d.fields ∷ (read_run Request rest).records) carriedByUrl allCookies
-      cookies_left = subst (λ (run : Run). Counted carried (read_run Request requests).records run.records carriedByUrl allCookies) next c.cookies
+      cookies_left : Counted carried (read_run Request requests).records (d.fields ∷ (read_run Request rest).records) carried_by_url cookies_in_all
+      cookies_left = subst (λ (run : Run). Counted carried (read_run Request requests).records run.records carried_by_url cookies_in_all) next c.cookies
 
       module _ (e : in_range d.fields ≡ true) where
         pub url_next : d.fields.url < url_rows
@@ -170,9 +170,9 @@ module _ {requests : List ℕ} where
         -- no count passes 32 bits
         pub counts_small :
             (get_or by_url d.fields.url 0 + 1 ≤ length requests)
-            × (get_or carriedByUrl d.fields.url 0 + carried d.fields ≤ 8 * length requests)
-            × (allRecords + 1 ≤ length requests)
-            × (allCookies + carried d.fields ≤ 8 * length requests)
+            × (get_or carried_by_url d.fields.url 0 + carried d.fields ≤ 8 * length requests)
+            × (records_in_all + 1 ≤ length requests)
+            × (cookies_in_all + carried d.fields ≤ 8 * length requests)
         counts_small =
             let r = counts_fit one records_left url_next in
             let k = counts_fit carried cookies_left url_next in
@@ -181,9 +181,9 @@ module _ {requests : List ℕ} where
             (omega (arith, r.0, few), omega (arith, k.0, most), omega (arith, r.1, few), omega (arith, k.1, most))
 
         pub counting_passes : d.length ≡ 3
-            → Counting requests (set by_url d.fields.url (get_or by_url d.fields.url 0 + 1)) carriedByUrl (allRecords + 1) allCookies (from + 3)
+            → Counting requests (set by_url d.fields.url (get_or by_url d.fields.url 0 + 1)) carried_by_url (records_in_all + 1) cookies_in_all (from + 3)
         unfolding rest good
-        counting_passes short = subst (λ (n : ℕ). Counting requests (set by_url d.fields.url (get_or by_url d.fields.url 0 + 1)) carriedByUrl (allRecords + 1) allCookies (from + n)) short (record {
+        counting_passes short = subst (λ (n : ℕ). Counting requests (set by_url d.fields.url (get_or by_url d.fields.url 0 + 1)) carried_by_url (records_in_all + 1) cookies_in_all (from + n)) short (record {
           below = bytes_next.1;
           same = sym (good_next ∙ rw e);
           records = counted_goes_on one records_left url_next;
@@ -193,9 +193,9 @@ module _ {requests : List ℕ} where
         pub counting_goes_on :
             Counting requests
             (set by_url d.fields.url (get_or by_url d.fields.url 0 + 1))
-            (set carriedByUrl d.fields.url (get_or carriedByUrl d.fields.url 0 + carried d.fields))
-            (allRecords + 1)
-            (allCookies + carried d.fields)
+            (set carried_by_url d.fields.url (get_or carried_by_url d.fields.url 0 + carried d.fields))
+            (records_in_all + 1)
+            (cookies_in_all + carried d.fields)
             (from + d.length)
         unfolding rest good
         counting_goes_on = record {
