@@ -1,4 +1,5 @@
 -- The digits of a number: one below ten, else one more than a tenth of it has; and how many there can be.
+use Rattle.prelude.proofs.Kit.{refl}
 use Rattle.prelude.proofs.Kit.{ℕ, ◌≤◌, ◌<◌, ◌+◌, suc, ◌^◌, zero, ◌%◌, ◌/◌, zero-lt-suc, le_of_suc-le-suc, not-suc-le-zero, arith, true}
 use Rattle.prelude.proofs.Kit.{Bool, false, cond, List, ◌∷◌, [], ◌++◌, ◌≡◌, sym, ◌∙◌, ap, le-ltb, lt-ltb, ltb, length, length-append}
 use native.Mathlib.Nat.{pow-suc, div-lt_iff_lt-mul}
@@ -60,6 +61,11 @@ line_more (n ∷ []) h = absurd (omega arith)
 line_more (n ∷ m ∷ ns) h =
     let all : take (length (n ∷ m ∷ ns) - 1) (m ∷ ns) ≡ m ∷ ns = take_all (length (n ∷ m ∷ ns) - 1) (m ∷ ns) (omega arith) in
     ap (λ rest. (decimal n ++ (space ∷ [])) ++ line (map decimal rest)) (sym all)
+
+-- a word before some has a space behind it
+pub line_after : (word : List ℕ) (ns : List ℕ) → 0 < length ns → line (word ∷ map decimal ns) ≡ (word ++ (space ∷ [])) ++ line (map decimal ns)
+line_after word [] h = absurd (omega arith)
+line_after word (n ∷ ns) h = refl
 
 -- a line has room for ten digits of each, and the byte that ends them
 pub numbers_room : (ns : List ℕ) → 0 < length ns → length (line (map decimal ns)) ≤ 11 * length ns

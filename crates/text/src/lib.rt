@@ -106,6 +106,17 @@ impl<'a> Writer<'a> {
         self.write_numbers(&[n, m]);
     }
 
+    // A word, and numbers behind it, on a line of their own.
+    pub fn write_line(&mut self, word: &[u8], numbers: &[u32])
+        requires some { 0 < length numbers.now }
+        requires room { HasRoom self.old (length word.now + 1 + 11 * length numbers.now) }
+        ensures { Writes self.old (line (word.now ∷ map decimal numbers.now)) self.new }
+    {
+        self.write_bytes(word);
+        self.write_byte(b' ');
+        self.write_numbers(numbers);
+    }
+
     // A byte as two hexadecimal digits.
     #[tactic(auto, using(crate::proofs::Writing::writes_then))]
     fn write_hex_byte(&mut self, n: u8)
