@@ -1,20 +1,23 @@
 -- What labels say at a place of a journey, by what is missing for a load or for a redirect; and its URL is there.
-use Rattle.prelude.proofs.Kit.{ℕ, ◌≤◌, ◌<◌, suc, zero, Bool, false, not, ◌&&◌, List, ◌≡◌, refl, T, length, get_or, eq-eqb, ne_eqb, and_l, and_r}
+use Rattle.prelude.proofs.Kit.{ℕ, ◌≤◌, ◌<◌, suc, zero, Bool, false, not, ◌&&◌, List, ◌≡◌, sym, ◌∙◌, refl, ap, subst, T, length, get_or, eq-eqb, ne_eqb, and_l, and_r}
 use mathlib.Core.Bool.{and-false}
 use lib.Dec.{leb, leb→le}
 use borrow.Author.Tests.{le-leb, lt-leb}
+use Rattle.std.specs.Prelude.{Result, Ok, Err, is_ok, eqb}
 use Rattle.prelude.specs.Choice.{branch}
 use Rattle.prelude.specs.Lists.{is_empty}
 use Rattle.prelude.specs.Refusals.{accepted, first_of}
 use Rattle.labels.specs.Membership.{none_missing, all_below}
 use Rattle.labels.proofs.Below.{all_at}
-use Rattle.machine.specs.Policy.{is_url, well_formed, fit_missing_reader, fit_missing_writer, redirect_missing_reader, redirect_missing_writer}
-use Rattle.machine.specs.Machine.{missing_reader, missing_writer, readers_forbid, writers_forbid, plain}
+use Rattle.machine.specs.Policy.{is_url, upgraded, well_formed, fit_missing_reader, fit_missing_writer, redirect_missing_reader, redirect_missing_writer}
+use Rattle.machine.specs.Machine.{Verdict, missing_reader, missing_writer, readers_forbid, writers_forbid, plain}
 use Rattle.machine.proofs.Upgrading.{upgraded_url}
 use Rattle.policy.specs.Given.{Url}
 use Rattle.policy.proofs.Rows.{named_url}
-use Rattle.journeys.specs.Journey.{url_at, judged, most_urls, is_journey}
-use Rattle.journeys.specs.Legs.{first_forbidden}
+use Rattle.journeys.specs.Journey.{url_at, judged, takes, most_urls, is_journey}
+use Rattle.journeys.specs.declared.forbidden.Forbidden.{Forbidden}
+use Rattle.journeys.specs.declared.forbidden.Forbidden.TheVariants.{Reader, Writer}
+use Rattle.journeys.specs.Legs.{verdict, first_forbidden}
 use Rattle.journeys.specs.Given.{Journey}
 
 -- ---- the first of two that tells
@@ -44,6 +47,15 @@ module _ (p urls : List ℕ) (c : ℕ) where
   unfolding judged missing_reader missing_writer
   judged_redirect zero ne = absurd (ne refl)
   judged_redirect (suc i) ne = refl
+
+  -- what code answers tells whether the URL is taken
+  pub told_taken : (i : ℕ) (r : Result (Unit {0}) Forbidden) → verdict r ≡ judged p urls c i → is_ok r ≡ takes p urls c i
+  told_taken i r says = told r ∙ ap (λ (v : Verdict). eqb v.number accepted) says
+    where
+      told : (r : Result (Unit {0}) Forbidden) → is_ok r ≡ eqb (verdict r).number accepted
+      told (Ok u) = refl
+      told (Err (Reader e)) = refl
+      told (Err (Writer e)) = refl
 
 -- ---- the numbers of a journey
 
@@ -79,3 +91,7 @@ module _ (p urls : List ℕ) where
 
   pub asked_url : Journey p urls → (i : ℕ) → i < length urls → Url p (url_at p urls i)
   asked_url j i l = named_url p (url_at p urls i) j.policy.formed (asked_there j.journey j.policy.formed i l)
+
+  -- as code comes to it
+  pub there : Journey p urls → (i n u : ℕ) → i < length urls → n ≡ get_or urls i 0 → u ≡ upgraded p n → Url p u
+  there j i n u l e f = subst (Url p) (sym (f ∙ ap (upgraded p) e)) (asked_url j i l)

@@ -1,44 +1,34 @@
 // The search for the lowest connection that carries a journey, and for the first URL that a connection does not take.
-ghost use Rattle.std.specs.Prelude.{◌≡◌, ◌<◌};
+ghost use Rattle.std.specs.Prelude.{◌≡◌, ◌<◌, length, IfSome, unwrap_or};
 ghost use Rattle.machine.specs.Policy.{connections};
-ghost use Rattle.journeys.specs.Journey.{carrier, fails_at};
-ghost use Rattle.journeys.specs.Given.{Journey};
+ghost use Rattle.journeys.specs.Journey.{carries, carrier, fails_at};
 
-use super::ACCEPTED;
-use super::legs::judge;
+use super::legs::Journey;
 use policy::words::CONNECTIONS;
 
-// The lowest connection that takes each URL of the journey, or 32. At the first that does, both loops are left.
-pub fn lowest_carrier(policy: &[u32], urls: &[u8]) -> usize
-    requires { Journey policy.now urls.now }
-    ensures { result ≡ carrier policy.now urls.now }
-{
-    let mut connection = 0;
-    'search: while connection < CONNECTIONS {
-        let mut place = 0;
-        loop {
-            if place == urls.len() {
-                break 'search;
-            }
-            if judge(policy, connection, urls, place).number != ACCEPTED {
-                break;
-            }
-            place = place + 1;
-        }
-        connection = connection + 1;
+impl<'a> Journey<'a> {
+    // The first place whose URL a connection does not take.
+    pub fn fails_at(self, connection: usize) -> Option<usize>
+        requires { connection < connections }
+        ensures first { unwrap_or result (length self.entry.urls.now) ≡ fails_at self.entry.policy.now self.entry.urls.now connection }
+        ensures within { IfSome result (λ i. i < length self.entry.urls.now) }
+    {
+        (0..self.urls.len()).find(|place| self.judge(connection, *place).is_err())
     }
-    connection
-}
 
-// The first place whose URL a connection does not take, or the length of the journey.
-pub fn fails_at(policy: &[u32], connection: usize, urls: &[u8]) -> usize
-    requires { Journey policy.now urls.now × (connection < connections) }
-    ensures { result ≡ fails_at policy.now urls.now connection }
-{
-    for place in 0..urls.len() {
-        if judge(policy, connection, urls, place).number != ACCEPTED {
-            return place;
-        }
+    // Whether a connection takes each URL of the journey.
+    fn carries(self, connection: usize) -> bool
+        requires { connection < connections }
+        ensures { result ≡ carries self.entry.policy.now self.entry.urls.now connection }
+    {
+        self.fails_at(connection).is_none()
     }
-    urls.len()
+
+    // The lowest connection that does.
+    pub fn lowest_carrier(self) -> Option<usize>
+        ensures lowest { unwrap_or result connections ≡ carrier self.entry.policy.now self.entry.urls.now }
+        ensures one { IfSome result (λ c. c < connections) }
+    {
+        (0..CONNECTIONS).find(|connection| self.carries(*connection))
+    }
 }
