@@ -2,4 +2,5 @@ pub mod Given
 pub mod Delivered
 pub mod Output
 pub mod Kinds
+pub mod Pending
 pub mod Strays

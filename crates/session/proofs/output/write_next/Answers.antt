@@ -1,8 +1,8 @@
--- `requests::write_next` meets its contract: a record written into the lent part of the buffer is the next of the whole.
+-- `output::write_next` meets its contract: a record written into the lent part of the buffer is the next of the whole.
 use Rattle.prelude.proofs.Kit.{arith}
 use Rattle.records.specs.Codec.{written}
 use Rattle.session.proofs.Outputs.{next_room, next_written}
-use Rattle.session.proofs.requests.write_next.Goals as goal
+use Rattle.session.proofs.output.write_next.Goals as goal
 
 pub overflow_add-result : goal.overflow_add-result
 overflow_add-result c =
