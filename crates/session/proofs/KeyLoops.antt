@@ -7,7 +7,7 @@ use Rattle.records.specs.Layout.{key_numbers}
 use Rattle.records.proofs.Cookies.{keys_from}
 use Rattle.policy.proofs.KeyBits.{none_has}
 use Rattle.machine.specs.Policy.{host_keys}
-use Rattle.machine.specs.Session.{state_words, has, Cookie, store_cookie, store_cookies}
+use Rattle.machine.specs.Session.{has, Cookie, store_cookie, store_cookies}
 use Rattle.session.specs.Delivered.{cookie, delivered}
 
 -- ---- delivered cookies are stored

@@ -12,7 +12,7 @@ use super::cookies::has;
 use super::kinds::{is_bare, is_script};
 use super::pending::FREE;
 use super::words::{WORDS, connection_word, cookie_value, presence};
-use policy::words::{CONNECTIONS, HOST_KEYS, HOSTS, URL_ROWS};
+use policy::words::{CONNECTIONS, HOSTS, URL_ROWS};
 use policy::{fits, is_url};
 
 // The strays are a word for each key: the values of absent cookies, which are to be 0, joined by "or" over the hosts.
@@ -31,8 +31,8 @@ fn with_absent(strays: [u32; 8], state: &[u32], host: usize, keys: u32) -> [u32;
     ensures { none_left result ≡ all_below host_keys (cookie_sound state.now host) && none_left strays }
 {
     let mut all = strays;
-    for key in 0..HOST_KEYS {
-        all[key] = all[key] | stray_value(keys, key, cookie_value(state, host, key));
+    for (key, stray) in all.iter_mut().enumerate() {
+        *stray |= stray_value(keys, key, cookie_value(state, host, key));
     }
     all
 }
@@ -56,11 +56,7 @@ fn with_strays_of(strays: [u32; 8], state: &[u32], host: usize) -> [u32; 8]
 fn none_left(strays: [u32; 8]) -> bool
     ensures { result ≡ none_left strays }
 {
-    let mut all = 0u32;
-    for key in 0..HOST_KEYS {
-        all = all | strays[key];
-    }
-    all == 0
+    strays.iter().fold(0, |all, stray| all | *stray) == 0
 }
 
 // Two tests at the end, of what all hosts have: to stop at a host that is not sound would cost the others more.
@@ -71,7 +67,7 @@ fn hosts_sound(state: &[u32]) -> bool
     let mut strays = [0u32; 8];
     let mut bits = 0u32;
     for host in 0..HOSTS {
-        bits = bits | presence(state, host);
+        bits |= presence(state, host);
         // with a name of its own: a call's result cannot go straight into an array that is in use
         let with_host = with_strays_of(strays, state, host);
         strays = with_host;
@@ -126,8 +122,7 @@ fn four_sound(policy: &[u32], state: &[u32], first: usize) -> bool
     ensures { result
         ≡ all_below 4 (λ i. connection_sound policy.now (first + i) (connection_word state.now (first + i))) }
 {
-    for i in 0..4 {
-        let connection = first + i;
+    for connection in first..first + 4 {
         if !connection_sound(policy, connection, connection_word(state, connection)) {
             return false;
         }
@@ -140,14 +135,11 @@ fn connections_sound(policy: &[u32], state: &[u32]) -> bool
     requires { Session policy.now state.now }
     ensures { result ≡ all_below connections (λ n. connection_sound policy.now n (connection_word state.now n)) }
 {
-    let mut first = 0;
-    while first < CONNECTIONS {
-        if !four_free(state, first) {
-            if !four_sound(policy, state, first) {
-                return false;
-            }
+    for four in 0..CONNECTIONS / 4 {
+        let first = 4 * four;
+        if !four_free(state, first) && !four_sound(policy, state, first) {
+            return false;
         }
-        first = first + 4;
     }
     true
 }
