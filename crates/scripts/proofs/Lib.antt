@@ -1,2 +1,2 @@
-pub mod OneStep
+pub mod Requests
 pub mod Running

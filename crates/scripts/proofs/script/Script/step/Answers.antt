@@ -1,0 +1,30 @@
+-- `Script::step` meets its contract: the steps that use registers alone; the others are found.
+use Rattle.prelude.proofs.Kit.{◌∙◌, ap}
+use Rattle.machine.specs.Scripts.{Step, step}
+use Rattle.session.specs.Output.{output}
+use Rattle.scripts.proofs.Running.{quiet}
+use Rattle.scripts.proofs.script.Script.step.Goals as goal
+
+pub returns-in-Constant-clause-reached : goal.returns-in-Constant-clause-reached
+returns-in-Constant-clause-reached c =
+    let a = c.args in
+    let s = a.session.now in
+    quiet c.constant.result c.constant.new.registers s.words.now (output a.out.now.at a.out.now.buffer.now)
+    (c.constant.ensures s.policy.now s.words.now a.self.connection a.self.page
+    ∙ ap (λ (x : Step). step s.policy.now a.self.connection a.self.page x a.place a.registers.now s.words.now) c.in-Constant.ensures)
+
+pub returns-in-Add-clause-reached : goal.returns-in-Add-clause-reached
+returns-in-Add-clause-reached c =
+    let a = c.args in
+    let s = a.session.now in
+    quiet c.add.result c.add.new.registers s.words.now (output a.out.now.at a.out.now.buffer.now)
+    (c.add.ensures s.policy.now s.words.now a.self.connection a.self.page
+    ∙ ap (λ (x : Step). step s.policy.now a.self.connection a.self.page x a.place a.registers.now s.words.now) c.in-Add.ensures)
+
+pub returns-in-SkipIfZero-clause-reached : goal.returns-in-SkipIfZero-clause-reached
+returns-in-SkipIfZero-clause-reached c =
+    let a = c.args in
+    let s = a.session.now in
+    quiet c.skip_if_zero.result a.registers.now s.words.now (output a.out.now.at a.out.now.buffer.now)
+    (c.skip_if_zero.ensures s.policy.now s.words.now a.self.connection a.self.page
+    ∙ ap (λ (x : Step). step s.policy.now a.self.connection a.self.page x a.place a.registers.now s.words.now) c.in-SkipIfZero.ensures)
