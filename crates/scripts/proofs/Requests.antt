@@ -1,5 +1,5 @@
 -- A number that is no byte names no URL, so a request of it ends the script.
-use Rattle.prelude.proofs.Kit.{ℕ, ◌≤◌, ◌<◌, List, ◌≡◌, arith, le-ltb}
+use Rattle.prelude.proofs.Kit.{ℕ, ◌≤◌, List, ◌≡◌, arith, le-ltb}
 use Rattle.prelude.specs.Choice.{branch}
 use Rattle.machine.specs.Policy.{url_rows, is_url}
 use Rattle.machine.specs.Scripts.{requested, ended}

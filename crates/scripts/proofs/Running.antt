@@ -1,6 +1,6 @@
 -- A run, step by step: what was done and what remains are what is done in all.
 use Rattle.prelude.proofs.Kit.{ℕ, ◌≤◌, ◌<◌, ◌+◌, ◌-◌, suc, zero, add-zero, arith, List, ◌∷◌, [], ◌++◌, ◌≡◌, sym, ◌∙◌, refl, ap, le-ltb, lt-ltb}
-use Rattle.std.specs.Prelude.{Option, Some, None}
+use Rattle.std.specs.Prelude.{Option, Some}
 use Rattle.prelude.specs.Choice.{branch}
 use Rattle.records.specs.declared.Record.{Record}
 use Rattle.machine.specs.Session.{Effects}

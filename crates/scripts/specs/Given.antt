@@ -1,7 +1,6 @@
 -- What the functions of this crate ask of their callers, who have just established it.
-use Rattle.std.specs.Prelude.{ℕ, ◌<◌, List, ◌≡◌, length}
+use Rattle.std.specs.Prelude.{ℕ, ◌<◌, List}
 use Rattle.machine.specs.Policy.{connections}
-use Rattle.machine.specs.Scripts.{script_bytes}
 use Rattle.policy.specs.Given.{Url}
 use Rattle.session.specs.Given.{Session}
 

@@ -1,5 +1,5 @@
 -- `Script::run` meets its contract: what was done and what remains are what is done in all.
-use Rattle.prelude.proofs.Kit.{ℕ, ap, ◌≤◌, ◌≡◌, ◌∙◌, sym, arith, rules}
+use Rattle.prelude.proofs.Kit.{ℕ, ap, ◌≤◌, ◌≡◌, ◌∙◌, arith, rules}
 use Rattle.machine.specs.Scripts.{script_steps}
 use Rattle.session.specs.Output.{output}
 use Rattle.scripts.specs.Reached.{place_of, ran}
@@ -34,7 +34,7 @@ loop-steps-preserved c =
       remains =
           run_more a.self.code.now l.session.policy.now a.self.connection a.self.page l.steps l.registers l.session.words.now (output l.out.at l.out.buffer.now)
           c.in-Some.place call.new.session.policy.now call.result call.new.registers call.new.session.words.now (output call.new.out.at call.new.out.buffer.now)
-          c.loop-steps-test.true c.if-place-ge-SCRIPT_STEPS.false call.ensures.policy call.ensures.reached
+          (omega arith) c.if-place-ge-SCRIPT_STEPS.false call.ensures.policy call.ensures.reached
           ∙ (rw c.in-Some.is at l.invariant.remains);
     }
 
