@@ -4,9 +4,11 @@
 mod operation;
 mod script;
 mod steps;
+mod table;
 
 pub use script::Script;
 use session::pending::SCRIPTS;
+pub use table::Table;
 
 // A script has as many steps.
 const SCRIPT_STEPS: usize = 32;
