@@ -1,15 +1,33 @@
 -- The sets of an address's endpoints: what is missing of one is the endpoint, just where a set does not hold it. And the words of a host's endpoints.
-use Rattle.prelude.proofs.Kit.{ℕ, ◌≤◌, ◌<◌, ◌+◌, ◌^◌, arith, true, false, Bool, ◌&&◌, ◌≡◌, ◌∙◌, ap, T, ltb, ltb→lt, and_l, and_r, lt-ltb, le-ltb, ne_eqb, not_T}
+use Rattle.prelude.proofs.Kit.{ℕ, ◌≤◌, ◌<◌, ◌+◌, ◌^◌, ◌%◌, arith, true, false, Bool, ◌&&◌, cond, ◌≡◌, refl, ◌∙◌, ap, T, ltb, ltb→lt, and_l, and_r, lt-ltb, le-ltb, ne_eqb, not_T}
 use Rattle.prelude.proofs.Kit.{⊎_elim}
 use mathlib.Core.Bool.{beq, and-false}
 use lib.Dec.{nltb→le}
 use Rattle.prelude.proofs.Choices.{either, is_false}
-use Rattle.labels.specs.Membership.{endpoints, is_none, all_below}
-use Rattle.labels.specs.Sets.{holds, missing, unheld, empty, word_of}
+use Rattle.labels.specs.Membership.{Membership, endpoints, is_none, all_below}
+use Rattle.labels.specs.Sets.{holds, missing, unheld, only, empty, word_of}
 use Rattle.labels.specs.Addresses.{hosts, message_endpoint, event_endpoint, message_set, event_set, host_endpoints}
 use Rattle.labels.proofs.Membership.{none_unheld}
 use Rattle.labels.proofs.Below.{all_at}
 use Rattle.labels.proofs.Words.{only_missing, empty_holds, beq_eq, word_holds}
+
+-- an address is its own message endpoint, and above 31 its singleton is empty as well
+pub message_only : (a : ℕ) → only a ≡ message_set a
+unfolding message_set only
+message_only a = cond_idempotent (ltb a endpoints) (2 ^ a) empty
+  where
+    cond_idempotent : (b : Bool) (x y : ℕ) → cond b x y ≡ cond b (cond b x y) y
+    cond_idempotent true x y = refl
+    cond_idempotent false x y = refl
+
+-- its event endpoint is its host, and above 31 there is none
+pub event_only : (a : ℕ) → a < endpoints → only (a % hosts) ≡ event_set a
+unfolding event_set
+event_only a l = rw (lt-ltb a endpoints l)
+
+pub event_none : (a : ℕ) {s : Membership} → endpoints ≤ a → s ≡ holds empty → s ≡ holds (event_set a)
+unfolding event_set
+event_none a l e = rw (le-ltb a endpoints l) e
 
 pub message_missing : (a s : ℕ) → a < endpoints → missing (message_set a) s ≡ unheld s (message_endpoint a)
 unfolding message_set

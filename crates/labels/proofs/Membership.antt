@@ -3,9 +3,10 @@ use Rattle.prelude.proofs.Kit.{ℕ, ◌<◌, ◌≤◌, zero, suc, arith, true, 
 use Rattle.prelude.proofs.Kit.{T_not, not_T, and_i, and_r, and_l, le_of_suc-le-suc}
 use native.Mathlib.Nat.{le_refl, le_antisymm, lt_of_not-le}
 use mathlib.Core.Logic.{◌⊎◌, inl, inr}
+use Rattle.std.specs.Prelude.{Some, None}
 use lib.Dec.{eqb_refl}
 use Rattle.prelude.proofs.Choices.{either, is_true, is_false}
-use Rattle.labels.specs.Membership.{Membership, endpoints, all_below, subset, is_missing, is_lowest_missing, none_missing, is_none, lowest_missing, missing_one, share}
+use Rattle.labels.specs.Membership.{Membership, endpoints, all_below, subset, is_missing, is_lowest_missing, none_missing, is_none, Tells, lowest_missing, missing_one, share}
 use Rattle.labels.proofs.Below.{all_at, all_of, any_at, any_of, found, same}
 
 implies_i : (x y : Bool) → (T x → T y) → T (not x || y)
@@ -92,6 +93,13 @@ module _ (s t : Membership) where
 
       one_lowest : (a b : ℕ) → T (is_lowest_missing s t a) → T (is_lowest_missing s t b) → a ≡ b
       one_lowest a b m k = le_antisymm (le_of_suc-le-suc (lt_of_not-le (above b a k m))) (le_of_suc-le-suc (lt_of_not-le (above a b m k)))
+
+-- what an option tells
+pub tells_none : (m : ℕ) → none_missing ≡ m → Tells None m
+tells_none m e = (e, rw (← e) refl)
+
+pub tells_some : (a m : ℕ) → a ≡ m → (a ≡ none_missing → ⊥) → Tells (Some a) m
+tells_some a m e ne = (e, rw (← e, ne_eqb a none_missing ne) refl)
 
 -- of one endpoint and a set 32 is told just where the set has it
 module _ (t : Membership) (a : ℕ) (l : a < endpoints) where
