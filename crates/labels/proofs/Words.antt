@@ -11,10 +11,10 @@ use lib.Bits.{bit_and, and_step, and_shr}
 use lib.Count.{count_trailing_zeros}
 use Rattle.prelude.proofs.Bits.{half_bit}
 use Rattle.prelude.proofs.Choices.{either, is_true, is_false}
-use Rattle.labels.specs.Membership.{Membership, endpoints, all_below, is_missing, is_lowest_missing}
-use Rattle.labels.specs.Sets.{holds, within, missing, unheld, empty, all, only, word_from, word_of}
+use Rattle.labels.specs.Membership.{Membership, endpoints, all_below, is_missing, is_lowest_missing, lowest_missing, missing_one, subset}
+use Rattle.labels.specs.Sets.{holds, within, missing, empty, all, only, word_from, word_of}
 use Rattle.labels.proofs.Below.{all_at, same}
-use Rattle.labels.proofs.Membership.{Bounded, subset_holds, holds_subset, told, one_missing}
+use Rattle.labels.proofs.Membership.{Bounded, subset_holds, holds_subset, told, one_missing, one_subset}
 
 -- what a set holds is an endpoint
 pub holds_below : (s : ℕ) → Bounded (holds s)
@@ -155,8 +155,12 @@ unfolding only
 only_above a l = rw (le-ltb a endpoints l)
 
 -- so what is missing of a singleton is its endpoint, just where a set does not hold it
-pub only_missing : (a s : ℕ) → a < endpoints → missing (only a) s ≡ unheld s a
-only_missing a s l = one_missing (holds (only a)) a l (λ b k. only_holds a b l k) (holds s)
+pub only_missing : (a : ℕ) (t : Membership) → a < endpoints → lowest_missing (holds (only a)) t ≡ missing_one t a
+only_missing a t l = one_missing (holds (only a)) a l (λ b k. only_holds a b l k) t
+
+-- and it is within just the sets that hold its endpoint
+pub only_within : (a : ℕ) (t : Membership) → a < endpoints → subset (holds (only a)) t ≡ t a
+only_within a t l = one_subset (holds (only a)) a l (λ b k. only_holds a b l k) t
 
 -- ---- the word of a set that is given by membership
 

@@ -1,6 +1,6 @@
 // What every set of the endpoints 0 to 31 promises, however it is kept. Document 01 calls an endpoint a mark.
 ghost use Rattle.std.specs.Prelude.{◌≡◌, ◌<◌, ℕ, Bool, true};
-ghost use Rattle.labels.specs.Membership.{Tells, endpoints, lowest_missing};
+ghost use Rattle.labels.specs.Membership.{Tells, endpoints, subset, lowest_missing};
 ghost use Rattle.labels.specs.Sets.{holds, only, empty, all};
 
 pub trait EndpointSet: Copy {
@@ -26,6 +26,13 @@ pub trait EndpointSet: Copy {
     // The lowest endpoint of this set that is missing in `other`; none where this set is within it.
     fn missing(self, other: Self) -> Option<u32>
         ensures { Tells result (lowest_missing (members self) (members other)) };
+
+    // Whether each endpoint of this set is in `other`.
+    final fn within(self, other: Self) -> bool
+        ensures { result ≡ subset (members self) (members other) }
+    {
+        self.missing(other).is_none()
+    }
 
     // Whether `endpoint` is in this set. For C alone: the crates above ask what of an endpoint's own set is missing in another.
     fn holds(self, endpoint: u32) -> bool
