@@ -1,4 +1,3 @@
-pub mod Given
 pub mod Delivered
 pub mod Output
 pub mod Kinds

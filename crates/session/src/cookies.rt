@@ -6,7 +6,7 @@ ghost use Rattle.machine.specs.Session.{state_words, has, set_cookie};
 
 use super::state::Session;
 use super::words::{PRESENCE_AT, cookie_value, presence};
-use policy::may_store;
+use labels::EndpointSet;
 use policy::words::HOST_KEYS;
 
 // Whether a key is in a map of keys.
@@ -27,7 +27,7 @@ pub fn set_cookie(state: &mut [u32], host: usize, key: usize, value: u32)
     state[PRESENCE_AT + host] = (keys | 1 << key) % 0x100;
 }
 
-impl<'a> Session<'a> {
+impl<'a, S: EndpointSet> Session<'a, S> {
     ghost use Rattle.std.specs.Prelude.{◌≡◌, ◌<◌};
     ghost use Rattle.prelude.specs.Choice.{branch};
     ghost use Rattle.labels.specs.Addresses.{hosts};
@@ -52,7 +52,7 @@ impl<'a> Session<'a> {
     pub fn set_cookie(&mut self, host: usize, key: usize, value: u32)
         requires { (host < hosts) × (key < host_keys) }
         ensures memory { self.new.words.ghost_name ≡ self.old.words.ghost_name }
-        ensures policy { self.new.policy.now ≡ self.old.policy.now }
+        ensures policy { self.new.policy.words.now ≡ self.old.policy.words.now }
         ensures words { self.new.words.now ≡ set_cookie host key value self.old.words.now }
     {
         set_cookie(self.words, host, key, value);
@@ -63,11 +63,11 @@ impl<'a> Session<'a> {
     fn store_cookie(&mut self, connection: usize, host: usize, key: usize, value: u32)
         requires { (connection < connections) × (host < hosts) × (key < host_keys) }
         ensures memory { self.new.words.ghost_name ≡ self.old.words.ghost_name }
-        ensures policy { self.new.policy.now ≡ self.old.policy.now }
+        ensures policy { self.new.policy.words.now ≡ self.old.policy.words.now }
         ensures words { self.new.words.now
-            ≡ store_cookie self.old.policy.now connection host (cookie key value) self.old.words.now }
+            ≡ store_cookie self.old.policy.words.now connection host (cookie key value) self.old.words.now }
     {
-        if may_store(self.policy, connection, host, key) {
+        if self.policy.may_store(connection, host, key) {
             self.set_cookie(host, key, value);
         }
     }
@@ -84,10 +84,10 @@ impl<'a> Session<'a> {
     )
         requires { (connection < connections) × (host < hosts) × (key < host_keys) }
         ensures memory { self.new.words.ghost_name ≡ self.old.words.ghost_name }
-        ensures policy { self.new.policy.now ≡ self.old.policy.now }
+        ensures policy { self.new.policy.words.now ≡ self.old.policy.words.now }
         ensures words { self.new.words.now
             ≡ branch (has keys key)
-            (store_cookie self.old.policy.now connection host (cookie key value) self.old.words.now)
+            (store_cookie self.old.policy.words.now connection host (cookie key value) self.old.words.now)
             self.old.words.now }
     {
         if has(u32::from(keys), key) {
@@ -100,9 +100,9 @@ impl<'a> Session<'a> {
     pub fn store_cookies(&mut self, connection: usize, host: usize, keys: u8, values: [u32; 8])
         requires { (connection < connections) × (host < hosts) }
         ensures memory { self.new.words.ghost_name ≡ self.old.words.ghost_name }
-        ensures policy { self.new.policy.now ≡ self.old.policy.now }
+        ensures policy { self.new.policy.words.now ≡ self.old.policy.words.now }
         ensures words { self.new.words.now
-            ≡ store_cookies self.old.policy.now connection host (delivered keys values) self.old.words.now }
+            ≡ store_cookies self.old.policy.words.now connection host (delivered keys values) self.old.words.now }
     {
         if keys == 0 {
             return;

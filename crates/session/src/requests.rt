@@ -13,7 +13,7 @@ use super::output::Output;
 use super::pending::Pending;
 use super::state::Session;
 use super::words::{cookie_value, presence, set_connection};
-use policy::{carried_keys, url_host};
+use labels::EndpointSet;
 use records::Record;
 use records::map_bytes::WITH_COOKIES;
 
@@ -49,7 +49,7 @@ fn request_map(kind: Kind, keys: u8) -> u8
     }
 }
 
-impl<'a> Session<'a> {
+impl<'a, S: EndpointSet> Session<'a, S> {
     ghost use Rattle.std.specs.Prelude.{◌≡◌, ◌<◌};
     ghost use Rattle.machine.specs.Policy.{connections};
     ghost use Rattle.machine.specs.Session.{key_map, attaches, request, set_connection};
@@ -60,25 +60,25 @@ impl<'a> Session<'a> {
 
     // The map of the keys of the cookies that a request to a URL carries. A host without cookies, the common case, is told at once.
     fn attached_keys(&self, url: usize) -> u8
-        requires { Url self.now.policy.now url }
-        ensures { result ≡ key_map (attaches self.now.policy.now self.now.words.now url) }
+        requires { Url self.now.policy.words.now url }
+        ensures { result ≡ key_map (attaches self.now.policy.words.now self.now.words.now url) }
     {
-        let present = presence(self.words, url_host(self.policy, url));
+        let present = presence(self.words, self.policy.url_host(url));
         if present == 0 {
             return 0;
         }
-        (present & u32::from(carried_keys(self.policy, url))) as u8
+        (present & u32::from(self.policy.carried_keys(url))) as u8
     }
 
     // The fields of the request of what is pending on a connection.
     fn request(&self, connection: usize, pending: Pending) -> Record
-        requires { Url self.now.policy.now pending.url × (connection < connections) }
+        requires { Url self.now.policy.words.now pending.url × (connection < connections) }
         ensures { result
-            ≡ request self.now.policy.now self.now.words.now connection (number_of pending.kind) pending.handler pending.url }
+            ≡ request self.now.policy.words.now self.now.words.now connection (number_of pending.kind) pending.handler pending.url }
     {
         let url = usize::from(pending.url);
         let keys = self.attached_keys(url);
-        let cookies = attached_values(self.words, url_host(self.policy, url), keys);
+        let cookies = attached_values(self.words, self.policy.url_host(url), keys);
         Record {
             map: request_map(pending.kind, keys),
             url: pending.url,
@@ -93,14 +93,14 @@ impl<'a> Session<'a> {
 
     // Opens or moves a connection, whatever was pending on it, and writes its request after those that are written.
     pub fn send(&mut self, connection: usize, pending: Pending, out: &mut Output<'_>)
-        requires { Url self.old.policy.now pending.url × (connection < connections) }
+        requires { Url self.old.policy.words.now pending.url × (connection < connections) }
         ensures memory { self.new.words.ghost_name ≡ self.old.words.ghost_name }
         ensures output_memory { out.new.buffer.ghost_name ≡ out.old.buffer.ghost_name }
-        ensures policy { self.new.policy.now ≡ self.old.policy.now }
+        ensures policy { self.new.policy.words.now ≡ self.old.policy.words.now }
         ensures words { self.new.words.now ≡ set_connection connection (word_of pending) self.old.words.now }
         ensures written { output out.new.at out.new.buffer.now
             ≡ write_next
-            (request self.old.policy.now self.old.words.now connection (number_of pending.kind) pending.handler pending.url)
+            (request self.old.policy.words.now self.old.words.now connection (number_of pending.kind) pending.handler pending.url)
             (output out.old.at out.old.buffer.now) }
     {
         out.write_next(self.request(connection, pending));

@@ -4,16 +4,15 @@ ghost use Rattle.labels.specs.Addresses.{hosts};
 ghost use Rattle.labels.specs.Membership.{all_below};
 ghost use Rattle.machine.specs.Policy.{host_keys, connections};
 ghost use Rattle.machine.specs.Session.{state_words, presence, connection_word, has, free, cookie_sound, host_sound, connection_sound, sound};
-ghost use Rattle.policy.specs.Given.{WellFormed};
-ghost use Rattle.session.specs.Given.{Session};
 ghost use Rattle.session.specs.Strays.{none_left};
 
 use super::cookies::has;
 use super::kinds::{is_bare, is_script};
 use super::pending::FREE;
 use super::words::{WORDS, connection_word, cookie_value, presence};
+use labels::EndpointSet;
+use policy::Policy;
 use policy::words::{CONNECTIONS, HOSTS, URL_ROWS};
-use policy::{fits, is_url};
 
 // The strays are a word for each key: the values of absent cookies, which are to be 0, joined by "or" over the hosts.
 
@@ -76,18 +75,18 @@ fn hosts_sound(state: &[u32]) -> bool
 }
 
 // URL and origin are taken below 64, which leaves `is_url` no bound to test: a word in which either is above has neither shape.
-fn connection_sound(policy: &[u32], connection: usize, word: u32) -> bool
-    requires { WellFormed policy.now × (connection < connections) }
-    ensures { result ≡ connection_sound policy.now connection word }
+fn connection_sound<S: EndpointSet>(policy: Policy<'_, S>, connection: usize, word: u32) -> bool
+    requires { connection < connections }
+    ensures { result ≡ connection_sound policy.entry.words.now connection word }
 {
     if word == FREE {
         return true;
     }
     let url = word as usize % URL_ROWS;
-    if !is_url(policy, url) {
+    if !policy.is_url(url) {
         return false;
     }
-    if !fits(policy, connection, url) {
+    if !policy.fits(connection, url) {
         return false;
     }
     if is_bare(word) {
@@ -96,7 +95,7 @@ fn connection_sound(policy: &[u32], connection: usize, word: u32) -> bool
     if !is_script(word) {
         return false;
     }
-    is_url(policy, word as usize / 0x1_0000 % URL_ROWS)
+    policy.is_url(word as usize / 0x1_0000 % URL_ROWS)
 }
 
 // The words of two connections as one, which the compiler reads at once.
@@ -117,10 +116,10 @@ fn four_free(state: &[u32], first: usize) -> bool
 }
 
 // Whether the four connections from this one on are sound.
-fn four_sound(policy: &[u32], state: &[u32], first: usize) -> bool
-    requires { Session policy.now state.now × (first + 4 ≤ connections) }
+fn four_sound<S: EndpointSet>(policy: Policy<'_, S>, state: &[u32], first: usize) -> bool
+    requires { (length state.now ≡ state_words) × (first + 4 ≤ connections) }
     ensures { result
-        ≡ all_below 4 (λ i. connection_sound policy.now (first + i) (connection_word state.now (first + i))) }
+        ≡ all_below 4 (λ i. connection_sound policy.entry.words.now (first + i) (connection_word state.now (first + i))) }
 {
     for connection in first..first + 4 {
         if !connection_sound(policy, connection, connection_word(state, connection)) {
@@ -131,9 +130,9 @@ fn four_sound(policy: &[u32], state: &[u32], first: usize) -> bool
 }
 
 // Four at a time: most connections are free, and four that are free take one test.
-fn connections_sound(policy: &[u32], state: &[u32]) -> bool
-    requires { Session policy.now state.now }
-    ensures { result ≡ all_below connections (λ n. connection_sound policy.now n (connection_word state.now n)) }
+fn connections_sound<S: EndpointSet>(policy: Policy<'_, S>, state: &[u32]) -> bool
+    requires { length state.now ≡ state_words }
+    ensures { result ≡ all_below connections (λ n. connection_sound policy.entry.words.now n (connection_word state.now n)) }
 {
     for four in 0..CONNECTIONS / 4 {
         let first = 4 * four;
@@ -144,10 +143,8 @@ fn connections_sound(policy: &[u32], state: &[u32]) -> bool
     true
 }
 
-// For a policy that is well formed.
-pub fn sound(policy: &[u32], state: &[u32]) -> bool
-    requires { WellFormed policy.now }
-    ensures { result ≡ sound policy.now state.now }
+pub fn sound<S: EndpointSet>(policy: Policy<'_, S>, state: &[u32]) -> bool
+    ensures { result ≡ sound policy.entry.words.now state.now }
 {
     if state.len() != WORDS {
         return false;

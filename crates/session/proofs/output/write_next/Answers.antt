@@ -1,5 +1,5 @@
 -- `output::write_next` meets its contract: a record written into the lent part of the buffer is the next of the whole.
-use Rattle.prelude.proofs.Kit.{ℕ, ◌+◌, arith, ◌≡◌, refl, ap, sym, ◌∙◌}
+use Rattle.prelude.proofs.Kit.{ℕ, arith, ◌≡◌, refl, ◌∙◌}
 use Rattle.std.specs.Prelude.{Result, Ok, Err}
 use Rattle.std.specs.Result.{result_unwrap_or}
 use Rattle.records.specs.declared.errors.EncodeError.{EncodeError}

@@ -5,4 +5,4 @@ use Rattle.machine.specs.Session.{connection_word, connection_sound}
 use Rattle.session.proofs.soundness.connections_sound.Given as goal
 
 abbrev pub invariant-loop-four : goal.invariant-loop-four
-invariant-loop-four l = true ≡ all_below (4 * l.four) (λ n. connection_sound l.policy n (connection_word l.state n))
+invariant-loop-four g l = true ≡ all_below (4 * l.four) (λ n. connection_sound l.policy.words.now n (connection_word l.state n))

@@ -5,4 +5,4 @@ use Rattle.machine.specs.Session.{connection_word, connection_sound}
 use Rattle.session.proofs.soundness.four_sound.Given as goal
 
 abbrev pub invariant-loop-connection : goal.invariant-loop-connection
-invariant-loop-connection l = true ≡ all_below (l.connection - l.first) (λ i. connection_sound l.policy (l.first + i) (connection_word l.state (l.first + i)))
+invariant-loop-connection g l = true ≡ all_below (l.connection - l.first) (λ i. connection_sound l.policy.words.now (l.first + i) (connection_word l.state (l.first + i)))

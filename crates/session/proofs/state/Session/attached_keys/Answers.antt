@@ -18,11 +18,11 @@ unfolding attaches
 shared p s u eh es ek = rw (ek, es, eh) (kept_keys (presence s (url_host p u)) (may_carry p u))
 
 pub returns-then-present-eq0 : goal.returns-then-present-eq0
-returns-then-present-eq0 c =
+returns-then-present-eq0 g c =
     let s = c.args.self.now in
-    none s.policy.now s.words.now c.args.url c.url_host.ensures.0 c.presence-present.ensures c.if-present-eq0.true
+    none s.policy.words.now s.words.now c.args.url c.url_host.ensures.0 c.presence-present.ensures c.if-present-eq0.true
 
 pub returns : goal.returns
-returns c =
+returns g c =
     let s = c.args.self.now in
-    rw c.from.ensures (shared s.policy.now s.words.now c.args.url c.url_host.ensures.0 c.presence-present.ensures c.carried_keys.ensures)
+    rw c.from.ensures (shared s.policy.words.now s.words.now c.args.url c.url_host.ensures.0 c.presence-present.ensures c.carried_keys.ensures)

@@ -6,9 +6,9 @@ use Rattle.session.proofs.KeyLoops.{stored_from}
 use Rattle.session.proofs.state.Session.store_cookies.Given as goal
 
 abbrev pub invariant-loop-key : goal.invariant-loop-key
-invariant-loop-key l = record {
+invariant-loop-key g l = record {
   memory : l.self.words.ghost_name ≡ l.initial.self.words.ghost_name;
-  policy : l.self.policy.now ≡ l.initial.self.policy.now;
-  remains : stored_from l.self.policy.now l.connection l.host l.keys l.value-items l.key l.self.words.now
-      ≡ store_cookies l.initial.self.policy.now l.connection l.host (delivered l.keys l.value-items) l.initial.self.words.now;
+  policy : l.self.policy.words.now ≡ l.initial.self.policy.words.now;
+  remains : stored_from l.self.policy.words.now l.connection l.host l.keys l.value-items l.key l.self.words.now
+      ≡ store_cookies l.initial.self.policy.words.now l.connection l.host (delivered l.keys l.value-items) l.initial.self.words.now;
 }
