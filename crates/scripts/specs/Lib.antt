@@ -1,3 +1,2 @@
-pub mod Given
 pub mod Operations
 pub mod Reached

@@ -6,7 +6,7 @@ ghost use Rattle.machine.specs.Scripts.{script_bytes};
 use super::operation::Operation;
 use super::steps::{add, constant, read_cookie, send_request, skip_if_zero, write_cookie};
 use super::{SCRIPT_STEPS, STEP_LIMIT};
-use policy::upgraded;
+use labels::EndpointSet;
 use session::{Kind, Output, Pending, Session};
 
 /// A script's bytes, the connection whose labels it has, and the page that it runs for.
@@ -57,20 +57,20 @@ impl<'a> Script<'a> {
 
     #[tactic(auto, unfolding(machine::specs::Scripts::step, machine::specs::Scripts::goes_on, machine::specs::Scripts::ended, session::specs::Output::write_each), using(crate::proofs::Requests::none_requested))]
     // One step: the place of the next one, if the script goes on.
-    fn step(
+    fn step<S: EndpointSet>(
         self,
-        session: &mut Session<'_>,
+        session: &mut Session<'_, S>,
         registers: &mut [u32; 4],
         place: usize,
         out: &mut Output<'_>,
     ) -> Option<usize>
-        requires { Url session.old.policy.now self.page × (place < script_steps) }
+        requires { Url session.old.policy.words.now self.page × (place < script_steps) }
         ensures memory { session.new.words.ghost_name ≡ session.old.words.ghost_name }
         ensures output_memory { out.new.buffer.ghost_name ≡ out.old.buffer.ghost_name }
-        ensures policy { session.new.policy.now ≡ session.old.policy.now }
+        ensures policy { session.new.policy.words.now ≡ session.old.policy.words.now }
         ensures reached { reached result registers.new session.new.words.now (output out.new.at out.new.buffer.now)
             ≡ after
-            (step session.old.policy.now self.entry.connection self.entry.page (step_at self.entry.code.now place) place
+            (step session.old.policy.words.now self.entry.connection self.entry.page (step_at self.entry.code.now place) place
             registers.old session.old.words.now)
             (output out.old.at out.old.buffer.now) }
     {
@@ -99,7 +99,7 @@ impl<'a> Script<'a> {
                     kind: Kind::Script,
                     origin: page,
                     handler,
-                    url: u8::try_from(upgraded(session.policy(), usize::from(url))).ok()?,
+                    url: u8::try_from(session.policy().upgraded(usize::from(url))).ok()?,
                 };
                 send_request(session, connection, place, via, pending, out)
             }
@@ -110,7 +110,7 @@ impl<'a> Script<'a> {
                 url,
                 connection: via,
             } => {
-                let url = u8::try_from(upgraded(session.policy(), usize::from(url))).ok()?;
+                let url = u8::try_from(session.policy().upgraded(usize::from(url))).ok()?;
                 let pending = Pending::bare(Kind::Picture, url);
                 send_request(session, connection, place, via, pending, out)
             }
@@ -118,14 +118,19 @@ impl<'a> Script<'a> {
     }
 
     /// Runs the script, with a value in register 0, and answers how many steps it met. Requests are written after those that are written.
-    pub fn run(self, session: &mut Session<'_>, value: u32, out: &mut Output<'_>) -> u32
-        requires { Url session.old.policy.now self.page }
+    pub fn run<S: EndpointSet>(
+        self,
+        session: &mut Session<'_, S>,
+        value: u32,
+        out: &mut Output<'_>,
+    ) -> u32
+        requires { Url session.old.policy.words.now self.page }
         ensures memory { session.new.words.ghost_name ≡ session.old.words.ghost_name }
         ensures output_memory { out.new.buffer.ghost_name ≡ out.old.buffer.ghost_name }
-        ensures policy { session.new.policy.now ≡ session.old.policy.now }
+        ensures policy { session.new.policy.words.now ≡ session.old.policy.words.now }
         ensures ran { ran result session.new.words.now (output out.new.at out.new.buffer.now)
             ≡ finished 0
-            (run_from step_limit (step_at self.entry.code.now) session.old.policy.now self.entry.connection self.entry.page 0
+            (run_from step_limit (step_at self.entry.code.now) session.old.policy.words.now self.entry.connection self.entry.page 0
             (starting_with value) session.old.words.now)
             (output out.old.at out.old.buffer.now) }
     {

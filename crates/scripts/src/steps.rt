@@ -14,8 +14,8 @@ ghost use Rattle.session.specs.Kinds.{number_of};
 ghost use Rattle.session.specs.Output.{output};
 ghost use Rattle.scripts.specs.Reached.{place_of, reached, after};
 
+use labels::EndpointSet;
 use policy::words::{CONNECTIONS, HOST_KEYS};
-use policy::{is_url, may_read, may_send, may_write, url_host};
 use session::pending::SCRIPTS;
 use session::{Output, Pending, Session};
 
@@ -74,8 +74,8 @@ pub fn skip_if_zero(registers: &[u32; 4], place: usize, register: u8, count: u8)
 }
 
 // Step 3: a cookie of the page's host.
-pub fn read_cookie(
-    session: &Session<'_>,
+pub fn read_cookie<S: EndpointSet>(
+    session: &Session<'_, S>,
     connection: usize,
     page: u8,
     registers: &mut [u32; 4],
@@ -83,18 +83,18 @@ pub fn read_cookie(
     register: u8,
     key: u8,
 ) -> Option<usize>
-    requires { Url session.now.policy.now page × (connection < connections) × (place < script_steps) }
+    requires { Url session.now.policy.words.now page × (connection < connections) × (place < script_steps) }
     ensures { goes_on (place_of result) registers.new session.now.words.now
-        ≡ step session.now.policy.now connection page (read_cookie register key) place registers.old session.now.words.now }
+        ≡ step session.now.policy.words.now connection page (read_cookie register key) place registers.old session.now.words.now }
 {
     let register = usize::from(register);
     let key = usize::from(key);
     if key >= HOST_KEYS {
         return None;
     }
-    let host = url_host(session.policy(), usize::from(page));
+    let host = session.policy().url_host(usize::from(page));
     if (register < REGISTERS)
-        & (session.is_present(host, key) & may_read(session.policy(), connection, host, key))
+        & (session.is_present(host, key) & session.policy().may_read(connection, host, key))
     {
         registers[register] = session.cookie_value(host, key);
         return Some(place + 1);
@@ -103,23 +103,29 @@ pub fn read_cookie(
 }
 
 // A write that is not allowed is passed over.
-fn set_if_allowed(session: &mut Session<'_>, connection: usize, host: usize, key: usize, value: u32)
+fn set_if_allowed<S: EndpointSet>(
+    session: &mut Session<'_, S>,
+    connection: usize,
+    host: usize,
+    key: usize,
+    value: u32,
+)
     requires { (connection < connections) × (host < hosts) × (key < host_keys) }
     ensures memory { session.new.words.ghost_name ≡ session.old.words.ghost_name }
-    ensures policy { session.new.policy.now ≡ session.old.policy.now }
+    ensures policy { session.new.policy.words.now ≡ session.old.policy.words.now }
     ensures words { session.new.words.now
-        ≡ branch (may_write session.old.policy.now connection (cookie_index host key))
+        ≡ branch (may_write session.old.policy.words.now connection (cookie_index host key))
         (set_cookie host key value session.old.words.now)
         session.old.words.now }
 {
-    if may_write(session.policy(), connection, host, key) {
+    if session.policy().may_write(connection, host, key) {
         session.set_cookie(host, key, value);
     }
 }
 
 // Step 4: a cookie of the page's host.
-pub fn write_cookie(
-    session: &mut Session<'_>,
+pub fn write_cookie<S: EndpointSet>(
+    session: &mut Session<'_, S>,
     connection: usize,
     page: u8,
     registers: &[u32; 4],
@@ -127,11 +133,11 @@ pub fn write_cookie(
     key: u8,
     register: u8,
 ) -> Option<usize>
-    requires { Url session.old.policy.now page × (connection < connections) × (place < script_steps) }
+    requires { Url session.old.policy.words.now page × (connection < connections) × (place < script_steps) }
     ensures memory { session.new.words.ghost_name ≡ session.old.words.ghost_name }
-    ensures policy { session.new.policy.now ≡ session.old.policy.now }
+    ensures policy { session.new.policy.words.now ≡ session.old.policy.words.now }
     ensures goes_on { goes_on (place_of result) registers.now session.new.words.now
-        ≡ step session.old.policy.now connection page (write_cookie key register) place registers.now session.old.words.now }
+        ≡ step session.old.policy.words.now connection page (write_cookie key register) place registers.now session.old.words.now }
 {
     let key = usize::from(key);
     let register = usize::from(register);
@@ -141,15 +147,15 @@ pub fn write_cookie(
     if register >= REGISTERS {
         return None;
     }
-    let host = url_host(session.policy(), usize::from(page));
+    let host = session.policy().url_host(usize::from(page));
     set_if_allowed(session, connection, host, key, registers[register]);
     Some(place + 1)
 }
 
 #[tactic(auto, unfolding(machine::specs::Scripts::requested, machine::specs::Scripts::goes_on_after, machine::specs::Scripts::ended, machine::specs::Session::send, session::specs::Output::write_each, prelude::specs::Choice::branch))]
 // Steps 5 and 7: a request on the connection `via`, and what is then pending there.
-pub fn send_request(
-    session: &mut Session<'_>,
+pub fn send_request<S: EndpointSet>(
+    session: &mut Session<'_, S>,
     connection: usize,
     place: usize,
     via: u8,
@@ -159,16 +165,16 @@ pub fn send_request(
     requires { (connection < connections) × (place < script_steps) }
     ensures memory { session.new.words.ghost_name ≡ session.old.words.ghost_name }
     ensures output_memory { out.new.buffer.ghost_name ≡ out.old.buffer.ghost_name }
-    ensures policy { session.new.policy.now ≡ session.old.policy.now }
+    ensures policy { session.new.policy.words.now ≡ session.old.policy.words.now }
     ensures reached { (rs : List ℕ) → reached result rs session.new.words.now (output out.new.at out.new.buffer.now)
         ≡ after
-        (requested session.old.policy.now connection (number_of pending.kind) pending.origin pending.handler pending.url via
+        (requested session.old.policy.words.now connection (number_of pending.kind) pending.origin pending.handler pending.url via
         place rs session.old.words.now)
         (output out.old.at out.old.buffer.now) }
 {
     let url = usize::from(pending.url);
     let via = usize::from(via);
-    if !is_url(session.policy(), url) {
+    if !session.policy().is_url(url) {
         return None;
     }
     if via >= CONNECTIONS {
@@ -177,7 +183,7 @@ pub fn send_request(
     if usize::from(pending.handler) >= SCRIPTS {
         return None;
     }
-    if !may_send(session.policy(), connection, url, via) {
+    if !session.policy().may_send(connection, url, via) {
         return None;
     }
     session.send(via, pending, out);

@@ -7,10 +7,10 @@ use Rattle.scripts.proofs.Running.{remaining}
 use Rattle.scripts.proofs.script.Script.run.Given as goal
 
 abbrev pub invariant-loop-steps : goal.invariant-loop-steps
-invariant-loop-steps l = record {
+invariant-loop-steps g l = record {
   memory : l.session.words.ghost_name ≡ l.initial.session.words.ghost_name;
   output_memory : l.out.buffer.ghost_name ≡ l.initial.out.buffer.ghost_name;
-  policy : l.session.policy.now ≡ l.initial.session.policy.now;
-  remains : remaining l.self.code.now l.session.policy.now l.self.connection l.self.page l.steps l.next l.registers l.session.words.now (output l.out.at l.out.buffer.now)
-      ≡ remaining l.self.code.now l.initial.session.policy.now l.self.connection l.self.page 0 (Some 0) (starting_with l.value) l.initial.session.words.now (output l.initial.out.at l.initial.out.buffer.now);
+  policy : l.session.policy.words.now ≡ l.initial.session.policy.words.now;
+  remains : remaining l.self.code.now l.session.policy.words.now l.self.connection l.self.page l.steps l.next l.registers l.session.words.now (output l.out.at l.out.buffer.now)
+      ≡ remaining l.self.code.now l.initial.session.policy.words.now l.self.connection l.self.page 0 (Some 0) (starting_with l.value) l.initial.session.words.now (output l.initial.out.at l.initial.out.buffer.now);
 }
