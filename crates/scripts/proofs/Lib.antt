@@ -1,2 +1,4 @@
 pub mod OneStep
+pub mod Requests
 pub mod Running
+pub mod Tables

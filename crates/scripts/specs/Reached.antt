@@ -1,10 +1,13 @@
 -- A run of a script as the code has it: what it stands at, with the registers, the state and the output that were lent to it.
-use Rattle.std.specs.Prelude.{ℕ, ◌+◌, List}
+use Rattle.std.specs.Prelude.{ℕ, ◌+◌, List, Option, Some, None}
 use Rattle.machine.specs.Session.{Effects}
-use Rattle.machine.specs.Scripts.{Progress}
-use Rattle.session.specs.Output.{Output, output, write_each}
-use Rattle.scripts.specs.declared.position.Position.{Position}
-use Rattle.scripts.specs.declared.Ran.{Ran}
+use Rattle.machine.specs.Scripts.{script_steps, Progress}
+use Rattle.session.specs.Output.{Output, write_each}
+
+-- the place of the next step; a script that ended stands past the last one
+abbrev pub place_of : Option ℕ → ℕ
+place_of None = script_steps
+place_of (Some place) = place
 
 -- after a step
 pub record Reached : Type 0 where
@@ -13,8 +16,8 @@ pub record Reached : Type 0 where
   pub state : List ℕ
   pub output : Output
 
-abbrev pub reached : Position → (registers state out : List ℕ) → Reached
-reached r rs s out = record { place = r.place; registers = rs; state = s; output = output r.written out }
+abbrev pub reached : Option ℕ → (registers state : List ℕ) → Output → Reached
+reached next rs s o = record { place = place_of next; registers = rs; state = s; output = o }
 
 -- what a step of the definition leaves, its requests written after those of the steps before
 abbrev pub after : Progress → Output → Reached
@@ -26,8 +29,8 @@ pub record Finished : Type 0 where
   pub state : List ℕ
   pub output : Output
 
-abbrev pub ran : Ran → List ℕ → List ℕ → Finished
-ran r s out = record { steps = r.steps; state = s; output = output r.written out }
+abbrev pub ran : ℕ → List ℕ → Output → Finished
+ran steps s o = record { steps = steps; state = s; output = o }
 
 -- what is done after so many steps
 abbrev pub finished : ℕ → Effects → Output → Finished

@@ -1,241 +1,191 @@
-// The steps of a script. A field that is used and out of range ends the script, and so does a read or a request that is not allowed.
-ghost use Rattle.std.specs.Prelude.{◌≡◌, ℕ, ◌<◌, ◌≤◌, List, length, slice_index};
+// The steps of a script. A field that is used and out of range ends the script, and so does a read or a request that is not allowed. Where
+// a script goes on, the answer is the place of its next step.
+#![tactic(auto, unfolding(machine::specs::Scripts::step, machine::specs::Scripts::goes_on, machine::specs::Scripts::ended, prelude::specs::Choice::branch))]
+
+ghost use Rattle.std.specs.Prelude.{◌≡◌, ℕ, ◌<◌, List};
 ghost use Rattle.prelude.specs.Choice.{branch};
 ghost use Rattle.labels.specs.Addresses.{hosts};
 ghost use Rattle.machine.specs.Policy.{host_keys, connections, cookie_index, may_write};
 ghost use Rattle.machine.specs.Session.{set_cookie};
-ghost use Rattle.machine.specs.Scripts.{script_bytes, script_steps, register_count, requested, step, step_at, goes_on};
+ghost use Rattle.machine.specs.Scripts.{script_steps, requested, step, goes_on};
 ghost use Rattle.machine.specs.Scripts.{constant, add, read_cookie, write_cookie, skip_if_zero};
-ghost use Rattle.session.specs.Given.{Session};
+ghost use Rattle.policy.specs.Given.{Url};
+ghost use Rattle.session.specs.Kinds.{number_of};
 ghost use Rattle.session.specs.Output.{output};
-ghost use Rattle.scripts.specs.Given.{Script};
-ghost use Rattle.scripts.specs.Reached.{reached, after};
+ghost use Rattle.scripts.specs.Reached.{place_of, reached, after};
 
-use super::position::{Position, REGISTERS};
+use labels::EndpointSet;
 use policy::words::{CONNECTIONS, HOST_KEYS};
-use policy::{is_url, may_read, may_send, may_write, upgraded, url_host};
-use session::cookies::{is_present, set_cookie};
-use session::kinds::{PICTURE, SCRIPT};
-use session::pending::{Pending, SCRIPTS};
-use session::requests::send;
-use session::words::cookie_value;
-use std::num::wrapping_add_u32;
+use session::pending::SCRIPTS;
+use session::{Output, Pending, Session};
+
+const REGISTERS: usize = 4;
 
 // Step 1.
-fn constant(registers: &mut [u32], position: Position, register: usize, value: u32) -> Position
-    requires { (length registers.old ≡ register_count) × (position.place < script_steps) }
-    ensures { ((p s : List ℕ) (n page : ℕ) → goes_on result.place registers.new s
-        ≡ step p n page (constant register value) position.place registers.old s)
-        × (result.written ≡ position.written) }
+pub fn constant(registers: &mut [u32; 4], place: usize, register: u8, value: u32) -> Option<usize>
+    requires { place < script_steps }
+    ensures { (p s : List ℕ) (n page : ℕ) → goes_on (place_of result) registers.new s
+        ≡ step p n page (constant register value) place registers.old s }
 {
-    if register < REGISTERS {
-        registers[register] = value;
-        return position.after(0);
+    let register = usize::from(register);
+    if register >= REGISTERS {
+        return None;
     }
-    position.ended()
+    registers[register] = value;
+    Some(place + 1)
 }
 
 // Step 2: the sum wraps.
-fn add(
-    registers: &mut [u32],
-    position: Position,
-    register: usize,
-    left: usize,
-    right: usize,
-) -> Position
-    requires { (length registers.old ≡ register_count) × (position.place < script_steps) }
-    ensures { ((p s : List ℕ) (n page : ℕ) → goes_on result.place registers.new s
-        ≡ step p n page (add register left right) position.place registers.old s)
-        × (result.written ≡ position.written) }
+pub fn add(
+    registers: &mut [u32; 4],
+    place: usize,
+    register: u8,
+    left: u8,
+    right: u8,
+) -> Option<usize>
+    requires { place < script_steps }
+    ensures { (p s : List ℕ) (n page : ℕ) → goes_on (place_of result) registers.new s
+        ≡ step p n page (add register left right) place registers.old s }
 {
+    let register = usize::from(register);
+    let left = usize::from(left);
+    let right = usize::from(right);
     if (register < REGISTERS) & ((left < REGISTERS) & (right < REGISTERS)) {
-        registers[register] = wrapping_add_u32(registers[left], registers[right]);
-        return position.after(0);
+        registers[register] = registers[left].wrapping_add(registers[right]);
+        return Some(place + 1);
     }
-    position.ended()
+    None
 }
 
 // Step 6.
-fn skip_if_zero(registers: &[u32], position: Position, register: usize, count: usize) -> Position
-    requires { (length registers.now ≡ register_count) × (position.place < script_steps) × (count < 256) }
-    ensures { ((p s : List ℕ) (n page : ℕ) → goes_on result.place registers.now s
-        ≡ step p n page (skip_if_zero register count) position.place registers.now s)
-        × (result.written ≡ position.written) }
+pub fn skip_if_zero(registers: &[u32; 4], place: usize, register: u8, count: u8) -> Option<usize>
+    requires { place < script_steps }
+    ensures { (p s : List ℕ) (n page : ℕ) → goes_on (place_of result) registers.now s
+        ≡ step p n page (skip_if_zero register count) place registers.now s }
 {
-    if REGISTERS <= register {
-        return position.ended();
+    let register = usize::from(register);
+    if register >= REGISTERS {
+        return None;
     }
     if registers[register] == 0 {
-        return position.after(count);
+        return Some(place + 1 + usize::from(count));
     }
-    position.after(0)
+    Some(place + 1)
 }
 
 // Step 3: a cookie of the page's host.
-fn read_cookie(
-    policy: &[u32],
-    state: &[u32],
+pub fn read_cookie<S: EndpointSet>(
+    session: &Session<'_, S>,
     connection: usize,
-    page: usize,
-    registers: &mut [u32],
-    position: Position,
-    register: usize,
-    key: usize,
-) -> Position
-    requires { Script policy.now state.now connection page
-        × (length registers.old ≡ register_count) × (position.place < script_steps) }
-    ensures { (goes_on result.place registers.new state.now
-        ≡ step policy.now connection page (read_cookie register key) position.place registers.old state.now)
-        × (result.written ≡ position.written) }
+    page: u8,
+    registers: &mut [u32; 4],
+    place: usize,
+    register: u8,
+    key: u8,
+) -> Option<usize>
+    requires { Url session.now.policy.words.now page × (connection < connections) × (place < script_steps) }
+    ensures { goes_on (place_of result) registers.new session.now.words.now
+        ≡ step session.now.policy.words.now connection page (read_cookie register key) place registers.old session.now.words.now }
 {
-    if HOST_KEYS <= key {
-        return position.ended();
+    let register = usize::from(register);
+    let key = usize::from(key);
+    if key >= HOST_KEYS {
+        return None;
     }
-    let host = url_host(policy, page);
+    let host = session.policy().url_host(usize::from(page));
     if (register < REGISTERS)
-        & (is_present(state, host, key) & may_read(policy, connection, host, key))
+        & (session.is_present(host, key) & session.policy().may_read(connection, host, key))
     {
-        registers[register] = cookie_value(state, host, key);
-        return position.after(0);
+        registers[register] = session.cookie_value(host, key);
+        return Some(place + 1);
     }
-    position.ended()
+    None
 }
 
 // A write that is not allowed is passed over.
-fn set_if_allowed(
-    policy: &[u32],
-    state: &mut [u32],
+fn set_if_allowed<S: EndpointSet>(
+    session: &mut Session<'_, S>,
     connection: usize,
     host: usize,
     key: usize,
     value: u32,
 )
-    requires { Session policy.now state.old × (connection < connections) × (host < hosts) × (key < host_keys) }
-    ensures { state.new
-        ≡ branch (may_write policy.now connection (cookie_index host key))
-        (set_cookie host key value state.old)
-        state.old }
+    requires { (connection < connections) × (host < hosts) × (key < host_keys) }
+    ensures memory { session.new.words.ghost_name ≡ session.old.words.ghost_name }
+    ensures policy { session.new.policy.words.now ≡ session.old.policy.words.now }
+    ensures words { session.new.words.now
+        ≡ branch (may_write session.old.policy.words.now connection (cookie_index host key))
+        (set_cookie host key value session.old.words.now)
+        session.old.words.now }
 {
-    if may_write(policy, connection, host, key) {
-        set_cookie(state, host, key, value);
+    if session.policy().may_write(connection, host, key) {
+        session.set_cookie(host, key, value);
     }
 }
 
 // Step 4: a cookie of the page's host.
-fn write_cookie(
-    policy: &[u32],
-    state: &mut [u32],
+pub fn write_cookie<S: EndpointSet>(
+    session: &mut Session<'_, S>,
     connection: usize,
-    page: usize,
-    registers: &[u32],
-    position: Position,
-    key: usize,
-    register: usize,
-) -> Position
-    requires { Script policy.now state.old connection page
-        × (length registers.now ≡ register_count) × (position.place < script_steps) }
-    ensures { (goes_on result.place registers.now state.new
-        ≡ step policy.now connection page (write_cookie key register) position.place registers.now state.old)
-        × (result.written ≡ position.written) }
+    page: u8,
+    registers: &[u32; 4],
+    place: usize,
+    key: u8,
+    register: u8,
+) -> Option<usize>
+    requires { Url session.old.policy.words.now page × (connection < connections) × (place < script_steps) }
+    ensures memory { session.new.words.ghost_name ≡ session.old.words.ghost_name }
+    ensures policy { session.new.policy.words.now ≡ session.old.policy.words.now }
+    ensures goes_on { goes_on (place_of result) registers.now session.new.words.now
+        ≡ step session.old.policy.words.now connection page (write_cookie key register) place registers.now session.old.words.now }
 {
-    if HOST_KEYS <= key {
-        return position.ended();
+    let key = usize::from(key);
+    let register = usize::from(register);
+    if key >= HOST_KEYS {
+        return None;
     }
-    if REGISTERS <= register {
-        return position.ended();
+    if register >= REGISTERS {
+        return None;
     }
-    let host = url_host(policy, page);
-    set_if_allowed(policy, state, connection, host, key, registers[register]);
-    position.after(0)
+    let host = session.policy().url_host(usize::from(page));
+    set_if_allowed(session, connection, host, key, registers[register]);
+    Some(place + 1)
 }
 
+#[tactic(auto, unfolding(machine::specs::Scripts::requested, machine::specs::Scripts::goes_on_after, machine::specs::Scripts::ended, machine::specs::Session::send, session::specs::Output::write_each, prelude::specs::Choice::branch))]
 // Steps 5 and 7: a request on the connection `via`, and what is then pending there.
-fn send_request(
-    policy: &[u32],
-    state: &mut [u32],
+pub fn send_request<S: EndpointSet>(
+    session: &mut Session<'_, S>,
     connection: usize,
-    mut position: Position,
-    via: usize,
+    place: usize,
+    via: u8,
     pending: Pending,
-    out: &mut [u8],
-) -> Position
-    requires { Session policy.now state.old × (connection < connections) × (pending.kind < 256) × (pending.origin < 256)
-        × (position.place < script_steps) × (position.written ≤ length out.old) }
-    ensures { ((rs : List ℕ) → reached result rs state.new out.new
+    out: &mut Output<'_>,
+) -> Option<usize>
+    requires { (connection < connections) × (place < script_steps) }
+    ensures memory { session.new.words.ghost_name ≡ session.old.words.ghost_name }
+    ensures output_memory { out.new.buffer.ghost_name ≡ out.old.buffer.ghost_name }
+    ensures policy { session.new.policy.words.now ≡ session.old.policy.words.now }
+    ensures reached { (rs : List ℕ) → reached result rs session.new.words.now (output out.new.at out.new.buffer.now)
         ≡ after
-        (requested policy.now connection pending.kind pending.origin pending.handler pending.url via
-        position.place rs state.old)
-        (output position.written out.old))
-        × (result.written ≤ length out.old) }
+        (requested session.old.policy.words.now connection (number_of pending.kind) pending.origin pending.handler pending.url via
+        place rs session.old.words.now)
+        (output out.old.at out.old.buffer.now) }
 {
-    if !is_url(policy, pending.url) {
-        return position.ended();
+    let url = usize::from(pending.url);
+    let via = usize::from(via);
+    if !session.policy().is_url(url) {
+        return None;
     }
-    if CONNECTIONS <= via {
-        return position.ended();
+    if via >= CONNECTIONS {
+        return None;
     }
-    if SCRIPTS <= pending.handler {
-        return position.ended();
+    if usize::from(pending.handler) >= SCRIPTS {
+        return None;
     }
-    if !may_send(policy, connection, pending.url, via) {
-        return position.ended();
+    if !session.policy().may_send(connection, url, via) {
+        return None;
     }
-    position.written = send(policy, state, via, pending, out, position.written);
-    position.after(0)
-}
-
-fn byte(code: &[u8], at: usize) -> usize
-    requires { at < length code.now }
-    ensures { (result ≡ slice_index code.now at) × (result < 256) }
-{
-    code[at] as usize
-}
-
-// One step, at the place where the run stands.
-pub fn step(
-    policy: &[u32],
-    state: &mut [u32],
-    code: &[u8],
-    connection: usize,
-    page: usize,
-    registers: &mut [u32],
-    position: Position,
-    out: &mut [u8],
-) -> Position
-    requires { Script policy.now state.old connection page
-        × (length code.now ≡ script_bytes) × (length registers.old ≡ register_count)
-        × (position.place < script_steps) × (position.written ≤ length out.old) }
-    ensures { (reached result registers.new state.new out.new
-        ≡ after
-        (step policy.now connection page (step_at code.now position.place) position.place
-        registers.old state.old)
-        (output position.written out.old))
-        × (result.written ≤ length out.old) }
-{
-    let at = 4 * position.place;
-    let op = byte(code, at);
-    let a = byte(code, at + 1);
-    let b = byte(code, at + 2);
-    let c = byte(code, at + 3);
-    match op {
-        1 => constant(registers, position, a, (256 * b + c) as u32),
-        2 => add(registers, position, a, b, c),
-        3 => read_cookie(policy, state, connection, page, registers, position, a, b),
-        4 => write_cookie(policy, state, connection, page, registers, position, a, b),
-        5 => {
-            let pending = Pending {
-                kind: SCRIPT,
-                origin: page,
-                handler: c,
-                url: upgraded(policy, a),
-            };
-            send_request(policy, state, connection, position, b, pending, out)
-        }
-        6 => skip_if_zero(registers, position, a, b),
-        7 => {
-            let pending = Pending::bare(PICTURE, upgraded(policy, a));
-            send_request(policy, state, connection, position, b, pending, out)
-        }
-        _ => position.ended(),
-    }
+    session.send(via, pending, out);
+    Some(place + 1)
 }

@@ -1,8 +1,8 @@
 -- Connections four at a time: four words that are 0, and that free connections are sound.
-use Rattle.prelude.proofs.Kit.{ℕ, ◌+◌, arith, true, ◌&&◌, Bool, and_assoc, List, ◌≡◌, sym, subst, T, eqb, eqb→eq}
+use Rattle.prelude.proofs.Kit.{ℕ, ◌+◌, ◌-◌, ◌<◌, ◌≤◌, arith, true, false, ◌&&◌, Bool, and_assoc, List, ◌≡◌, sym, subst, T, eqb, eqb→eq}
 use Rattle.prelude.proofs.Choices.{is_true}
 use Rattle.labels.specs.Membership.{all_below}
-use Rattle.labels.proofs.Below.{all_at, all_of, four}
+use Rattle.labels.proofs.Below.{all_at, all_of, four, one_passed, one_failed}
 use Rattle.machine.specs.Session.{free, connection_word, connection_sound}
 use Rattle.session.proofs.ConnectionTests.{free_sound}
 
@@ -23,3 +23,19 @@ free_passed p s n m e =
 
     sounds : ℕ → Bool
     sounds i = connection_sound p (n + i) (word i)
+
+-- four connections one by one, from the first on
+module _ (p s : List ℕ) (first n : ℕ) (low : first ≤ n) where
+  abbrev sounds : ℕ → Bool
+  sounds i = connection_sound p (first + i) (connection_word s (first + i))
+
+  here : first + (n - first) ≡ n
+  here = omega arith
+
+  pub next_sound : true ≡ connection_sound p n (connection_word s n) → true ≡ all_below (n - first) sounds → true ≡ all_below (n + 1 - first) sounds
+  next_sound e f =
+      let more : n - first + 1 ≡ n + 1 - first = omega arith in
+      rw (← more) (one_passed (n - first) sounds (rw here e) f)
+
+  pub next_unsound : n < first + 4 → false ≡ connection_sound p n (connection_word s n) → false ≡ all_below 4 sounds
+  next_unsound l e = one_failed 4 (n - first) sounds (omega arith) (rw here e)

@@ -5,8 +5,9 @@ use lib.Seq.{take-suc-set}
 use Rattle.prelude.specs.Choice.{branch, keep}
 use Rattle.records.specs.Layout.{key_numbers}
 use Rattle.records.proofs.Cookies.{keys_from}
+use Rattle.policy.proofs.KeyBits.{none_has}
 use Rattle.machine.specs.Policy.{host_keys}
-use Rattle.machine.specs.Session.{state_words, has, Cookie, store_cookie, store_cookies}
+use Rattle.machine.specs.Session.{has, Cookie, store_cookie, store_cookies}
 use Rattle.session.specs.Delivered.{cookie, delivered}
 
 -- ---- delivered cookies are stored
@@ -26,21 +27,28 @@ module _ (p : List ℕ) (n h keys : ℕ) (values : List ℕ) where
       go true = refl
       go false = refl
 
-  pub record Storing (before s : List ℕ) (key : ℕ) : Type 0 where
-    pub below : key ≤ host_keys
-    pub long : length s ≡ state_words
-    pub remains : store_cookies p n h (delivered_from (drop key key_numbers)) s ≡ store_cookies p n h (delivered keys values) before
+-- what is stored from a key on
+abbrev pub stored_from : (p : List ℕ) (n h keys : ℕ) (values : List ℕ) (key : ℕ) (s : List ℕ) → List ℕ
+stored_from p n h keys values key s = store_cookies p n h (delivered_from p n h keys values (drop key key_numbers)) s
 
-  pub storing_goes_on : (before s after : List ℕ) (key : ℕ) → key < host_keys → Storing before s key → length after ≡ length s
-      → after ≡ branch (has keys key) (store_cookie p n h (cookie key (get_or values key 0)) s) s → Storing before after (key + 1)
-  storing_goes_on before s after key l r same e =
-      rw (add-one key) (record {
-        below = l;
-        long = same ∙ r.long;
-        remains =
-            ap (store_cookies p n h (delivered_from (drop (suc key) key_numbers))) e ∙ sym (store_next key (drop (suc key) key_numbers) s)
-            ∙ ap (λ (ks : List ℕ). store_cookies p n h (delivered_from ks) s) (sym (keys_from key l)) ∙ r.remains;
-      })
+-- one key more
+pub storing_goes_on : (p q : List ℕ) (n h keys : ℕ) (values s after : List ℕ) (key : ℕ) → key < host_keys → q ≡ p
+    → after ≡ branch (has keys key) (store_cookie p n h (cookie key (get_or values key 0)) s) s
+    → stored_from q n h keys values (key + 1) after ≡ stored_from p n h keys values key s
+storing_goes_on p q n h keys values s after key l same e =
+    rw (same, e, add-one key)
+    (sym (store_next p n h keys values key (drop (suc key) key_numbers) s)
+    ∙ ap (λ (ks : List ℕ). store_cookies p n h (delivered_from p n h keys values ks) s) (sym (keys_from key l)))
+
+-- a record without cookies brings none
+pub none_stored : (p : List ℕ) (n h keys : ℕ) (values s : List ℕ) → keys ≡ 0 → s ≡ store_cookies p n h (delivered keys values) s
+unfolding store_cookies keep branch
+none_stored p n h keys values s e = rw (e, none_has 0, none_has 1, none_has 2, none_has 3, none_has 4, none_has 5, none_has 6, none_has 7)
+
+-- past the last key none is left
+pub all_stored : (p : List ℕ) (n h keys : ℕ) (values s : List ℕ) (key : ℕ) → key ≡ host_keys → stored_from p n h keys values key s ≡ s
+unfolding store_cookies keep
+all_stored p n h keys values s key e = rw e refl
 
 -- ---- the values that a request carries
 

@@ -1,8 +1,9 @@
 -- Strays as they are gathered: a value joined to them leaves none just where none were left and it is 0. So the two tests at the end are
 -- the hosts' own.
-use Rattle.prelude.proofs.Kit.{ℕ, ◌<◌, ◌+◌, suc, zero, le_of_suc-le-suc, not-suc-le-zero, add-one, arith, true, ◌&&◌, Bool, and_assoc}
-use Rattle.prelude.proofs.Kit.{and-true, List, ◌∷◌, [], ◌≡◌, bit_or, and_le_r, eqb, ltb, ltb→lt, lt→ltb, and_i, length, drop, get_or, set}
-use Rattle.prelude.proofs.Kit.{drop_of_length-le, drop-cons, and_r, and_l}
+use Rattle.prelude.proofs.Kit.{ℕ, ◌<◌, ◌+◌, suc, zero, le_of_suc-le-suc, not-suc-le-zero, arith, true, ◌&&◌, Bool, and_assoc}
+use Rattle.prelude.proofs.Kit.{and-true, List, ◌∷◌, [], ◌≡◌, refl, sym, ◌∙◌, bit_or, and_le_r, eqb, ltb, ltb→lt, lt→ltb, and_i, length, get_or, set}
+use Rattle.prelude.proofs.Kit.{and_r, and_l}
+use Rattle.std.specs.Prelude.{fold}
 use lib.Bits.{or_lt, or_add_and, and_le_l}
 use Rattle.prelude.proofs.Bits.{or_zero}
 use Rattle.prelude.proofs.Choices.{joined}
@@ -56,13 +57,8 @@ host_joined s h bits strays after e f =
     rw (f, or_below bits (presence s h), host_first (ltb bits 256) (ltb (presence s h) 256) (all_below host_keys (cookie_sound s h)) (none_left strays), e)
     (all_next h (host_sound s))
 
--- ---- the strays of all keys are joined
-
-pub word_joined : (strays : List ℕ) (key all : ℕ) → length strays ≡ host_keys → key < host_keys
-    → eqb (bit_or all (get_or strays key 0)) 0 && none_left (drop (key + 1) strays) ≡ eqb all 0 && none_left (drop key strays)
+-- the strays of all keys are joined
+pub all_joined : (all : ℕ) (strays : List ℕ) → eqb (fold bit_or all strays) 0 ≡ eqb all 0 && none_left strays
 unfolding none_left
-word_joined strays key all eight l = rw (drop-cons strays key 0 (rw eight l), or_zero all, and_assoc (eqb all 0), add-one key)
-
-pub all_joined : (strays : List ℕ) (all : ℕ) → length strays ≡ host_keys → eqb all 0 && none_left (drop host_keys strays) ≡ eqb all 0
-unfolding none_left
-all_joined strays all eight = rw (drop_of_length-le strays {i = host_keys} (omega arith), and-true (eqb all 0))
+all_joined all [] = sym (and-true (eqb all 0))
+all_joined all (word ∷ strays) = all_joined (bit_or all word) strays ∙ rw (or_zero all word, and_assoc (eqb all 0)) refl

@@ -1,7 +1,22 @@
--- The shapes of an open connection's word (document 01, "The state"), whatever the policy: its kind, and the other fields in their ranges.
-use Rattle.std.specs.Prelude.{ℕ, Bool, ◌&&◌, ltb, eqb}
+-- The kinds of connection as the code has them, by their numbers; and the shapes of an open connection's word (document 01, "The state"),
+-- whatever the policy: its kind, and the other fields in their ranges.
+use Rattle.std.specs.Prelude.{ℕ, Bool, ◌&&◌, ltb, eqb, ◌==◌, Option, Some, None, if◌then◌else◌}
 use Rattle.machine.specs.Policy.{url_rows}
-use Rattle.machine.specs.Session.{script_kind, script_count, bare_fields, kind_of, origin_of, handler_of, url_of}
+use Rattle.machine.specs.Session.{document_kind, script_kind, picture_kind, script_count, bare_fields, kind_of, origin_of, handler_of, url_of}
+use Rattle.session.specs.declared.kinds.Kind.{Kind}
+use Rattle.session.specs.declared.kinds.Kind.TheVariants.{Document, Script, Picture}
+
+abbrev pub number_of : Kind → ℕ
+number_of Document = document_kind
+number_of Script = script_kind
+number_of Picture = picture_kind
+
+abbrev pub kind_numbered : ℕ → Option Kind
+kind_numbered n =
+    if n == document_kind then Some Document
+    else if n == script_kind then Some Script
+    else if n == picture_kind then Some Picture
+    else None
 
 -- of a document or a picture
 unfoldable pub bare_shape : ℕ → Bool

@@ -1,5 +1,5 @@
-pub mod Given
 pub mod Delivered
 pub mod Output
 pub mod Kinds
+pub mod Pending
 pub mod Strays

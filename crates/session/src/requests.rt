@@ -1,58 +1,47 @@
 // The request that opens or moves a connection: its cookies, its fields, and its bytes in the output.
-ghost use Rattle.std.specs.Prelude.{◌≡◌, map, ◌<◌, ◌≤◌, length};
+ghost use Rattle.std.specs.Prelude.{◌≡◌, map, ◌<◌, length};
 ghost use Rattle.prelude.specs.Choice.{branch};
 ghost use Rattle.labels.specs.Addresses.{hosts};
 ghost use Rattle.records.specs.Layout.{key_numbers};
-ghost use Rattle.machine.specs.Policy.{host_keys, connections, cookie_index};
-ghost use Rattle.machine.specs.Session.{state_words, cookie_value, has, key_map, attaches, request_map, request, packed, set_connection};
-ghost use Rattle.policy.specs.Given.{Url};
-ghost use Rattle.session.specs.Given.{Session};
-ghost use Rattle.session.specs.Output.{output, write_next};
+ghost use Rattle.machine.specs.Policy.{host_keys, cookie_index};
+ghost use Rattle.machine.specs.Session.{state_words, cookie_value, has, request_map};
+ghost use Rattle.session.specs.Kinds.{number_of};
 
 use super::cookies::has;
-use super::kinds::plain_request;
+use super::kinds::Kind;
+use super::output::Output;
 use super::pending::Pending;
+use super::state::Session;
 use super::words::{cookie_value, presence, set_connection};
-use policy::words::HOST_KEYS;
-use policy::{carried_keys, url_host};
+use labels::EndpointSet;
+use records::Record;
 use records::map_bytes::WITH_COOKIES;
-use records::{Direction, Record};
-
-// The map of the keys of the cookies that a request to a URL carries. A host without cookies, the common case, is told at once.
-fn attached_keys(policy: &[u32], state: &[u32], url: usize) -> u8
-    requires { Session policy.now state.now × Url policy.now url }
-    ensures { result ≡ key_map (attaches policy.now state.now url) }
-{
-    let present = presence(state, url_host(policy, url));
-    if present == 0 {
-        return 0;
-    }
-    (present & carried_keys(policy, url) as u32) as u8
-}
 
 // The value of a cookie where its key is in a map of keys, else 0.
+#[tactic(auto, unfolding(prelude::specs::Choice::branch))]
 fn value_in(keys: u8, key: usize, value: u32) -> u32
     requires { key < host_keys }
     ensures { result ≡ branch (has keys key) value 0 }
 {
-    if has(keys as u32, key) { value } else { 0 }
+    if has(u32::from(keys), key) { value } else { 0 }
 }
 
 fn attached_values(state: &[u32], host: usize, keys: u8) -> [u32; 8]
     requires { (length state.now ≡ state_words) × (host < hosts) }
     ensures { result ≡ map (λ k. branch (has keys k) (cookie_value state.now (cookie_index host k)) 0) key_numbers }
 {
-    let mut values = [0u32; 8];
-    for key in 0..HOST_KEYS {
-        values[key] = value_in(keys, key, cookie_value(state, host, key));
+    let mut values = [0; 8];
+    for (key, value) in values.iter_mut().enumerate() {
+        *value = value_in(keys, key, cookie_value(state, host, key));
     }
     values
 }
 
-fn request_map(kind: u32, keys: u8) -> u8
-    ensures { result ≡ request_map kind keys }
+#[tactic(auto, unfolding(machine::specs::Session::request_map, prelude::specs::Choice::branch))]
+fn request_map(kind: Kind, keys: u8) -> u8
+    ensures { result ≡ request_map (number_of kind) keys }
 {
-    let plain = plain_request(kind);
+    let plain = kind.plain_request();
     if keys == 0 {
         plain
     } else {
@@ -60,74 +49,61 @@ fn request_map(kind: u32, keys: u8) -> u8
     }
 }
 
-// The fields of the request of what is pending on a connection.
-fn request(
-    policy: &[u32],
-    state: &[u32],
-    connection: usize,
-    kind: u32,
-    handler: usize,
-    url: usize,
-) -> Record
-    requires { Session policy.now state.now × Url policy.now url × (connection < connections) × (handler < 256) }
-    ensures { result ≡ request policy.now state.now connection kind handler url }
-{
-    let keys = attached_keys(policy, state, url);
-    let cookies = attached_values(state, url_host(policy, url), keys);
-    Record {
-        map: request_map(kind, keys),
-        url: (url % 256) as u8,
-        connection: (connection % 256) as u8,
-        keys,
-        cookies,
-        script: (handler % 256) as u8,
-        value: 0,
-        target: 0,
+impl<'a, S: EndpointSet> Session<'a, S> {
+    ghost use Rattle.std.specs.Prelude.{◌≡◌, ◌<◌};
+    ghost use Rattle.machine.specs.Policy.{connections};
+    ghost use Rattle.machine.specs.Session.{key_map, attaches, request, set_connection};
+    ghost use Rattle.policy.specs.Given.{Url};
+    ghost use Rattle.session.specs.Kinds.{number_of};
+    ghost use Rattle.session.specs.Output.{output, write_next};
+    ghost use Rattle.session.specs.Pending.{word_of};
+
+    // The map of the keys of the cookies that a request to a URL carries. A host without cookies, the common case, is told at once.
+    fn attached_keys(&self, url: usize) -> u8
+        requires { Url self.now.policy.words.now url }
+        ensures { result ≡ key_map (attaches self.now.policy.words.now self.now.words.now url) }
+    {
+        let present = presence(self.words, self.policy.url_host(url));
+        if present == 0 {
+            return 0;
+        }
+        (present & u32::from(self.policy.carried_keys(url))) as u8
     }
-}
 
-// Writes a request into the part of the output that follows `at`; answers the place after it. It does not look at what encoding
-// refuses: the monitor's requests can always be written (`SentReadsBack`).
-fn write_next(fields: Record, out: &mut [u8], at: usize) -> usize
-    requires { at ≤ length out.old }
-    ensures { (output result out.new ≡ write_next fields (output at out.old))
-        × (result ≤ length out.old) }
-{
-    let written = records::encode(Direction::Request, fields, &mut out[at..]);
-    at + written.unwrap_or(0)
-}
+    // The fields of the request of what is pending on a connection.
+    fn request(&self, connection: usize, pending: Pending) -> Record
+        requires { Url self.now.policy.words.now pending.url × (connection < connections) }
+        ensures { result
+            ≡ request self.now.policy.words.now self.now.words.now connection (number_of pending.kind) pending.handler pending.url }
+    {
+        let url = usize::from(pending.url);
+        let keys = self.attached_keys(url);
+        let cookies = attached_values(self.words, self.policy.url_host(url), keys);
+        Record {
+            map: request_map(pending.kind, keys),
+            url: pending.url,
+            connection: connection as u8,
+            keys,
+            cookies,
+            script: pending.handler,
+            value: 0,
+            target: 0,
+        }
+    }
 
-// Opens or moves a connection, whatever was pending on it, and writes its request into the part of the output that follows `at`;
-// answers the place after it.
-pub fn send(
-    policy: &[u32],
-    state: &mut [u32],
-    connection: usize,
-    pending: Pending,
-    out: &mut [u8],
-    at: usize,
-) -> usize
-    requires { Session policy.now state.old × Url policy.now pending.url × (connection < connections)
-        × (pending.kind < 256) × (pending.origin < 256) × (pending.handler < 256) × (at ≤ length out.old) }
-    ensures { (state.new
-        ≡ set_connection connection (packed pending.kind pending.origin pending.handler pending.url) state.old)
-        × (output result out.new
-        ≡ write_next (request policy.now state.old connection pending.kind pending.handler pending.url)
-        (output at out.old))
-        × (result ≤ length out.old) }
-{
-    let next = write_next(
-        request(
-            policy,
-            state,
-            connection,
-            pending.kind,
-            pending.handler,
-            pending.url,
-        ),
-        out,
-        at,
-    );
-    set_connection(state, connection, pending.word());
-    next
+    // Opens or moves a connection, whatever was pending on it, and writes its request after those that are written.
+    pub fn send(&mut self, connection: usize, pending: Pending, out: &mut Output<'_>)
+        requires { Url self.old.policy.words.now pending.url × (connection < connections) }
+        ensures memory { self.new.words.ghost_name ≡ self.old.words.ghost_name }
+        ensures output_memory { out.new.buffer.ghost_name ≡ out.old.buffer.ghost_name }
+        ensures policy { self.new.policy.words.now ≡ self.old.policy.words.now }
+        ensures words { self.new.words.now ≡ set_connection connection (word_of pending) self.old.words.now }
+        ensures written { output out.new.at out.new.buffer.now
+            ≡ write_next
+            (request self.old.policy.words.now self.old.words.now connection (number_of pending.kind) pending.handler pending.url)
+            (output out.old.at out.old.buffer.now) }
+    {
+        out.write_next(self.request(connection, pending));
+        set_connection(self.words, connection, u32::from(pending));
+    }
 }

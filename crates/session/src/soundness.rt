@@ -4,16 +4,15 @@ ghost use Rattle.labels.specs.Addresses.{hosts};
 ghost use Rattle.labels.specs.Membership.{all_below};
 ghost use Rattle.machine.specs.Policy.{host_keys, connections};
 ghost use Rattle.machine.specs.Session.{state_words, presence, connection_word, has, free, cookie_sound, host_sound, connection_sound, sound};
-ghost use Rattle.policy.specs.Given.{WellFormed};
-ghost use Rattle.session.specs.Given.{Session};
 ghost use Rattle.session.specs.Strays.{none_left};
 
 use super::cookies::has;
 use super::kinds::{is_bare, is_script};
 use super::pending::FREE;
 use super::words::{WORDS, connection_word, cookie_value, presence};
-use policy::words::{CONNECTIONS, HOST_KEYS, HOSTS, URL_ROWS};
-use policy::{fits, is_url};
+use labels::EndpointSet;
+use policy::Policy;
+use policy::words::{CONNECTIONS, HOSTS, URL_ROWS};
 
 // The strays are a word for each key: the values of absent cookies, which are to be 0, joined by "or" over the hosts.
 
@@ -31,8 +30,8 @@ fn with_absent(strays: [u32; 8], state: &[u32], host: usize, keys: u32) -> [u32;
     ensures { none_left result ≡ all_below host_keys (cookie_sound state.now host) && none_left strays }
 {
     let mut all = strays;
-    for key in 0..HOST_KEYS {
-        all[key] = all[key] | stray_value(keys, key, cookie_value(state, host, key));
+    for (key, stray) in all.iter_mut().enumerate() {
+        *stray |= stray_value(keys, key, cookie_value(state, host, key));
     }
     all
 }
@@ -56,11 +55,7 @@ fn with_strays_of(strays: [u32; 8], state: &[u32], host: usize) -> [u32; 8]
 fn none_left(strays: [u32; 8]) -> bool
     ensures { result ≡ none_left strays }
 {
-    let mut all = 0u32;
-    for key in 0..HOST_KEYS {
-        all = all | strays[key];
-    }
-    all == 0
+    strays.iter().fold(0, |all, stray| all | *stray) == 0
 }
 
 // Two tests at the end, of what all hosts have: to stop at a host that is not sound would cost the others more.
@@ -71,7 +66,7 @@ fn hosts_sound(state: &[u32]) -> bool
     let mut strays = [0u32; 8];
     let mut bits = 0u32;
     for host in 0..HOSTS {
-        bits = bits | presence(state, host);
+        bits |= presence(state, host);
         // with a name of its own: a call's result cannot go straight into an array that is in use
         let with_host = with_strays_of(strays, state, host);
         strays = with_host;
@@ -80,18 +75,18 @@ fn hosts_sound(state: &[u32]) -> bool
 }
 
 // URL and origin are taken below 64, which leaves `is_url` no bound to test: a word in which either is above has neither shape.
-fn connection_sound(policy: &[u32], connection: usize, word: u32) -> bool
-    requires { WellFormed policy.now × (connection < connections) }
-    ensures { result ≡ connection_sound policy.now connection word }
+fn connection_sound<S: EndpointSet>(policy: Policy<'_, S>, connection: usize, word: u32) -> bool
+    requires { connection < connections }
+    ensures { result ≡ connection_sound policy.entry.words.now connection word }
 {
     if word == FREE {
         return true;
     }
     let url = word as usize % URL_ROWS;
-    if !is_url(policy, url) {
+    if !policy.is_url(url) {
         return false;
     }
-    if !fits(policy, connection, url) {
+    if !policy.fits(connection, url) {
         return false;
     }
     if is_bare(word) {
@@ -100,7 +95,7 @@ fn connection_sound(policy: &[u32], connection: usize, word: u32) -> bool
     if !is_script(word) {
         return false;
     }
-    is_url(policy, word as usize / 0x1_0000 % URL_ROWS)
+    policy.is_url(word as usize / 0x1_0000 % URL_ROWS)
 }
 
 // The words of two connections as one, which the compiler reads at once.
@@ -121,13 +116,12 @@ fn four_free(state: &[u32], first: usize) -> bool
 }
 
 // Whether the four connections from this one on are sound.
-fn four_sound(policy: &[u32], state: &[u32], first: usize) -> bool
-    requires { Session policy.now state.now × (first + 4 ≤ connections) }
+fn four_sound<S: EndpointSet>(policy: Policy<'_, S>, state: &[u32], first: usize) -> bool
+    requires { (length state.now ≡ state_words) × (first + 4 ≤ connections) }
     ensures { result
-        ≡ all_below 4 (λ i. connection_sound policy.now (first + i) (connection_word state.now (first + i))) }
+        ≡ all_below 4 (λ i. connection_sound policy.entry.words.now (first + i) (connection_word state.now (first + i))) }
 {
-    for i in 0..4 {
-        let connection = first + i;
+    for connection in first..first + 4 {
         if !connection_sound(policy, connection, connection_word(state, connection)) {
             return false;
         }
@@ -136,26 +130,21 @@ fn four_sound(policy: &[u32], state: &[u32], first: usize) -> bool
 }
 
 // Four at a time: most connections are free, and four that are free take one test.
-fn connections_sound(policy: &[u32], state: &[u32]) -> bool
-    requires { Session policy.now state.now }
-    ensures { result ≡ all_below connections (λ n. connection_sound policy.now n (connection_word state.now n)) }
+fn connections_sound<S: EndpointSet>(policy: Policy<'_, S>, state: &[u32]) -> bool
+    requires { length state.now ≡ state_words }
+    ensures { result ≡ all_below connections (λ n. connection_sound policy.entry.words.now n (connection_word state.now n)) }
 {
-    let mut first = 0;
-    while first < CONNECTIONS {
-        if !four_free(state, first) {
-            if !four_sound(policy, state, first) {
-                return false;
-            }
+    for four in 0..CONNECTIONS / 4 {
+        let first = 4 * four;
+        if !four_free(state, first) && !four_sound(policy, state, first) {
+            return false;
         }
-        first = first + 4;
     }
     true
 }
 
-// For a policy that is well formed.
-pub fn sound(policy: &[u32], state: &[u32]) -> bool
-    requires { WellFormed policy.now }
-    ensures { result ≡ sound policy.now state.now }
+pub fn sound<S: EndpointSet>(policy: Policy<'_, S>, state: &[u32]) -> bool
+    ensures { result ≡ sound policy.entry.words.now state.now }
 {
     if state.len() != WORDS {
         return false;

@@ -5,4 +5,4 @@ use Rattle.session.proofs.kinds.is_script.Goals as goal
 
 pub returns : goal.returns
 unfolding handler_of url_of
-returns c = script_ranges c.args.word
+returns c = rw c.from-first.ensures (script_ranges c.args.word)

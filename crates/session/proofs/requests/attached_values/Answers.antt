@@ -10,7 +10,7 @@ loop-key-init c = record { below = zero-le; eight = refl; remains = refl }
 pub loop-key-preserved : goal.loop-key-preserved
 loop-key-preserved c =
     let l = c.loop-key in
-    filling_goes_on _ l.values l.key c.value_in.result c.loop-key-test.true l.invariant (rw c.cookie_value.ensures at c.value_in.ensures)
+    filling_goes_on _ l.value-items l.key c.value_in.result c.loop-key-test.true l.invariant (rw c.cookie_value.ensures at c.value_in.ensures)
 
 pub returns : goal.returns
-returns c = let l = c.loop-key in let all : l.key ≡ host_keys = omega arith in filling_ends _ l.values (rw all at l.invariant)
+returns c = let l = c.loop-key in let all : l.key ≡ host_keys = omega arith in filling_ends _ l.value-items (rw all at l.invariant)

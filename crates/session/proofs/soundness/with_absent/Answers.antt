@@ -1,5 +1,5 @@
 -- `soundness::with_absent` meets its contract: each value that is joined adds the test of its cookie.
-use Rattle.prelude.proofs.Kit.{zero-le, arith, ◌≡◌, refl, rules, length-set}
+use Rattle.prelude.proofs.Kit.{arith, ◌≡◌, refl, rules, length-set}
 use Rattle.labels.proofs.Below.{all_none}
 use Rattle.machine.specs.Policy.{host_keys}
 use Rattle.machine.specs.Session.{cookie_sound}
@@ -7,19 +7,18 @@ use Rattle.session.proofs.Strays.{key_joined}
 use Rattle.session.proofs.soundness.with_absent.Goals as goal
 
 pub loop-key-init : goal.loop-key-init
-loop-key-init c = (zero-le, search rules, rw (← all_none (cookie_sound c.args.state.now c.args.host)) refl)
+loop-key-init c = record { eight = search rules; joined = rw (← all_none (cookie_sound c.args.state.now c.args.host)) refl }
 
 pub loop-key-preserved : goal.loop-key-preserved
 unfolding cookie_sound
 loop-key-preserved c =
     let loop = c.loop-key in
-    let start = c in
-    let a = start.args in (
-      omega arith,
-      simp length-set loop.invariant.1,
-      key_joined a.state.now a.host loop.key c.stray_value.result a.strays loop.all loop.invariant.1 c.loop-key-test.true
-          (rw (← start.requires.2, ← c.cookie_value.ensures) c.stray_value.ensures) loop.invariant.2,
-    )
+    let a = c.args in
+    record {
+      eight = simp length-set loop.invariant.eight;
+      joined = key_joined a.state.now a.host loop.key c.stray_value.result a.strays loop.stray-items loop.invariant.eight c.loop-key-test.true
+          (rw (← c.requires.2, ← c.cookie_value.ensures) c.stray_value.ensures) loop.invariant.joined;
+    }
 
 pub returns : goal.returns
-returns c = let past : c.loop-key.key ≡ host_keys = omega arith in rw past at c.loop-key.invariant.2
+returns c = let past : c.loop-key.key ≡ host_keys = omega arith in rw past at c.loop-key.invariant.joined

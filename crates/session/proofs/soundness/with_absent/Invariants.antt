@@ -1,5 +1,5 @@
 -- `soundness::with_absent` meets its contract: each value that is joined adds the test of its cookie.
-use Rattle.prelude.proofs.Kit.{◌≤◌, ◌-◌, ◌&&◌, ◌≡◌, length}
+use Rattle.prelude.proofs.Kit.{◌&&◌, ◌≡◌, length}
 use Rattle.labels.specs.Membership.{all_below}
 use Rattle.machine.specs.Policy.{host_keys}
 use Rattle.machine.specs.Session.{cookie_sound}
@@ -7,7 +7,7 @@ use Rattle.session.specs.Strays.{none_left}
 use Rattle.session.proofs.soundness.with_absent.Given as goal
 
 abbrev pub invariant-loop-key : goal.invariant-loop-key
-invariant-loop-key l = (l.key ≤ host_keys) × (length l.all ≡ host_keys) × (none_left l.all ≡ all_below l.key (cookie_sound l.state l.host) && none_left l.initial.all)
-
-abbrev pub decreases-loop-key : goal.decreases-loop-key
-decreases-loop-key l = host_keys - l.key
+invariant-loop-key l = record {
+  eight : length l.stray-items ≡ host_keys;
+  joined : none_left l.stray-items ≡ all_below l.key (cookie_sound l.state l.host) && none_left l.initial.stray-items;
+}
