@@ -27,6 +27,12 @@ same true false f g = absurd (f tt)
 same false true f g = absurd (g tt)
 same false false f g = refl
 
+pub not_alike : (x y : Bool) → not x ≡ not y → x ≡ y
+not_alike true true e = refl
+not_alike true false e = sym e
+not_alike false true e = sym e
+not_alike false false e = refl
+
 pub all_at : (n : ℕ) (test : ℕ → Bool) → T (all_below n test) → (a : ℕ) → a < n → T (test a)
 unfolding all_below
 all_at zero test t a h = absurd (not-suc-le-zero h)

@@ -1,30 +1,46 @@
 -- The sets of an address's endpoints: what is missing of one is the endpoint, just where a set does not hold it. And the words of a host's endpoints.
-use Rattle.prelude.proofs.Kit.{ℕ, ◌≤◌, ◌<◌, ◌+◌, ◌^◌, arith, true, false, Bool, ◌&&◌, ◌≡◌, ◌∙◌, ap, T, ltb, ltb→lt, and_l, and_r, lt-ltb, le-ltb, ne_eqb, not_T}
+use Rattle.prelude.proofs.Kit.{ℕ, ◌≤◌, ◌<◌, ◌+◌, ◌^◌, ◌%◌, arith, true, false, Bool, ◌&&◌, cond, ◌≡◌, refl, T, ltb, ltb→lt, and_l, and_r, lt-ltb, le-ltb, ne_eqb, not_T}
 use Rattle.prelude.proofs.Kit.{⊎_elim}
 use mathlib.Core.Bool.{beq, and-false}
 use lib.Dec.{nltb→le}
 use Rattle.prelude.proofs.Choices.{either, is_false}
-use Rattle.labels.specs.Membership.{endpoints, is_none, all_below}
-use Rattle.labels.specs.Sets.{holds, missing, unheld, empty, word_of}
+use Rattle.labels.specs.Membership.{Membership, endpoints, all_below, subset, lowest_missing, missing_one}
+use Rattle.labels.specs.Sets.{holds, only, empty, word_of}
 use Rattle.labels.specs.Addresses.{hosts, message_endpoint, event_endpoint, message_set, event_set, host_endpoints}
-use Rattle.labels.proofs.Membership.{none_unheld}
 use Rattle.labels.proofs.Below.{all_at}
-use Rattle.labels.proofs.Words.{only_missing, empty_holds, beq_eq, word_holds}
+use Rattle.labels.proofs.Words.{only_missing, only_within, empty_holds, beq_eq, word_holds}
 
-pub message_missing : (a s : ℕ) → a < endpoints → missing (message_set a) s ≡ unheld s (message_endpoint a)
-unfolding message_set
-message_missing a s l = rw (lt-ltb a endpoints l) (only_missing a s l)
+-- an address is its own message endpoint, and above 31 its singleton is empty as well
+pub message_only : (a : ℕ) → only a ≡ message_set a
+unfolding message_set only
+message_only a = cond_idempotent (ltb a endpoints) (2 ^ a) empty
+  where
+    cond_idempotent : (b : Bool) (x y : ℕ) → cond b x y ≡ cond b (cond b x y) y
+    cond_idempotent true x y = refl
+    cond_idempotent false x y = refl
 
-pub event_missing : (a s : ℕ) → a < endpoints → missing (event_set a) s ≡ unheld s (event_endpoint a)
+-- its event endpoint is its host, and above 31 there is none
+pub event_only : (a : ℕ) → a < endpoints → only (a % hosts) ≡ event_set a
 unfolding event_set
-event_missing a s l = rw (lt-ltb a endpoints l) (only_missing (event_endpoint a) s (omega arith))
+event_only a l = rw (lt-ltb a endpoints l)
 
--- so none is missing just where the set holds it
-pub none_message : (a s : ℕ) → a < endpoints → is_none (missing (message_set a) s) ≡ holds s (message_endpoint a)
-none_message a s l = ap is_none (message_missing a s l) ∙ none_unheld (holds s) (message_endpoint a) l
+pub event_none : (a : ℕ) {s : Membership} → endpoints ≤ a → s ≡ holds empty → s ≡ holds (event_set a)
+unfolding event_set
+event_none a l e = rw (le-ltb a endpoints l) e
 
-pub none_event : (a s : ℕ) → a < endpoints → is_none (missing (event_set a) s) ≡ holds s (event_endpoint a)
-none_event a s l = ap is_none (event_missing a s l) ∙ none_unheld (holds s) (event_endpoint a) (omega arith)
+-- what is missing of either set is the endpoint
+pub message_missing : (a : ℕ) (t : Membership) → a < endpoints → lowest_missing (holds (message_set a)) t ≡ missing_one t (message_endpoint a)
+message_missing a t l = rw (← message_only a) (only_missing a t l)
+
+pub event_missing : (a : ℕ) (t : Membership) → a < endpoints → lowest_missing (holds (event_set a)) t ≡ missing_one t (event_endpoint a)
+event_missing a t l = rw (← event_only a l) (only_missing (event_endpoint a) t (omega arith))
+
+-- so either is within just the sets that hold it
+pub message_within : (a : ℕ) (t : Membership) → a < endpoints → subset (holds (message_set a)) t ≡ t (message_endpoint a)
+message_within a t l = rw (← message_only a) (only_within a t l)
+
+pub event_within : (a : ℕ) (t : Membership) → a < endpoints → subset (holds (event_set a)) t ≡ t (event_endpoint a)
+event_within a t l = rw (← event_only a l) (only_within (event_endpoint a) t (omega arith))
 
 -- ---- the words of a host's endpoints: one computed test of all 16 hosts and 32 endpoints
 

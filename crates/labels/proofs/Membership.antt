@@ -3,10 +3,11 @@ use Rattle.prelude.proofs.Kit.{ℕ, ◌<◌, ◌≤◌, zero, suc, arith, true, 
 use Rattle.prelude.proofs.Kit.{T_not, not_T, and_i, and_r, and_l, le_of_suc-le-suc}
 use native.Mathlib.Nat.{le_refl, le_antisymm, lt_of_not-le}
 use mathlib.Core.Logic.{◌⊎◌, inl, inr}
+use Rattle.std.specs.Prelude.{Option, Some, None, is_some}
 use lib.Dec.{eqb_refl}
 use Rattle.prelude.proofs.Choices.{either, is_true, is_false}
-use Rattle.labels.specs.Membership.{Membership, endpoints, all_below, subset, is_missing, is_lowest_missing, none_missing, is_none, lowest_missing, missing_one, share}
-use Rattle.labels.proofs.Below.{all_at, all_of, any_at, any_of, found, same}
+use Rattle.labels.specs.Membership.{Membership, endpoints, all_below, subset, is_missing, is_lowest_missing, none_missing, is_none, Tells, lowest_missing, missing_one, share}
+use Rattle.labels.proofs.Below.{all_at, all_of, any_at, any_of, found, not_alike, same}
 
 implies_i : (x y : Bool) → (T x → T y) → T (not x || y)
 implies_i true y f = f tt
@@ -92,6 +93,20 @@ module _ (s t : Membership) where
 
       one_lowest : (a b : ℕ) → T (is_lowest_missing s t a) → T (is_lowest_missing s t b) → a ≡ b
       one_lowest a b m k = le_antisymm (le_of_suc-le-suc (lt_of_not-le (above b a k m))) (le_of_suc-le-suc (lt_of_not-le (above a b m k)))
+
+-- what an option tells
+pub tells_none : (m : ℕ) → none_missing ≡ m → Tells None m
+tells_none m e = (e, rw (← e) refl)
+
+pub tells_some : (a m : ℕ) → a ≡ m → (a ≡ none_missing → ⊥) → Tells (Some a) m
+tells_some a m e ne = (e, rw (← e, ne_eqb a none_missing ne) refl)
+
+-- none is told just where the number is 32, and then the first set is within the second
+pub told_none : (r : Option ℕ) (m : ℕ) (b : Bool) → Tells r m → is_some r ≡ not b → b ≡ is_none m
+told_none r m b t e = not_alike b (is_none m) (sym e ∙ t.1)
+
+pub told_within : (s t : Membership) (r : Option ℕ) (b : Bool) → Tells r (lowest_missing s t) → is_some r ≡ not b → b ≡ subset s t
+told_within s t r b told e = told_none r (lowest_missing s t) b told e ∙ none_missing_lem s t
 
 -- of one endpoint and a set 32 is told just where the set has it
 module _ (t : Membership) (a : ℕ) (l : a < endpoints) where

@@ -1,20 +1,20 @@
 -- The laws of sets that are words: bits against membership, the word of a membership, and the empty set, all endpoints and singletons.
 use Rattle.prelude.proofs.Kit.{ℕ, ◌<◌, ◌+◌, ◌-◌, ◌*◌, suc, ◌^◌, zero, ◌%◌, ◌/◌, zero-lt-suc, div-one, add-zero, zero-add, add-one, arith}
-use Rattle.prelude.proofs.Kit.{true, Bool, false, not, cond, ⊎_elim, ◌≡◌, sym, ◌∙◌, lt-ltb}
+use Rattle.prelude.proofs.Kit.{true, Bool, false, not, cond, ⊎_elim, ◌≡◌, sym, ◌∙◌, lt-ltb, le-ltb, ◌≤◌, one-mul, lit<}
 use Rattle.prelude.proofs.Kit.{refl, ap, subst, T, T_not, not_T, eqb, ltb, eqb→eq, ltb→lt, lt→ltb, and_i, and_r, and_l, le_of_suc-le-suc, not-suc-le-zero}
 use Prim.Native.Nat.{min, suc-le-suc}
 use native.Mathlib.Nat.{zero-div, pow-suc}
 use mathlib.Core.Bool.{beq}
 use lib.Arith.{lt-one}
-use lib.Pow.{shr_lt}
+use lib.Pow.{shr_lt, shl_exact}
 use lib.Bits.{bit_and, and_step, and_shr}
 use lib.Count.{count_trailing_zeros}
 use Rattle.prelude.proofs.Bits.{half_bit}
 use Rattle.prelude.proofs.Choices.{either, is_true, is_false}
-use Rattle.labels.specs.Membership.{Membership, endpoints, all_below, is_missing, is_lowest_missing}
-use Rattle.labels.specs.Sets.{holds, within, missing, unheld, empty, all, only, word_from, word_of}
+use Rattle.labels.specs.Membership.{Membership, endpoints, all_below, is_missing, is_lowest_missing, lowest_missing, missing_one, subset}
+use Rattle.labels.specs.Sets.{holds, within, missing, empty, all, only, word_from, word_of}
 use Rattle.labels.proofs.Below.{all_at, same}
-use Rattle.labels.proofs.Membership.{Bounded, subset_holds, holds_subset, told, one_missing}
+use Rattle.labels.proofs.Membership.{Bounded, subset_holds, holds_subset, told, one_missing, one_subset}
 
 -- what a set holds is an endpoint
 pub holds_below : (s : ℕ) → Bounded (holds s)
@@ -145,9 +145,22 @@ only_holds a b l k =
     beq_eq (holds (only a) b) (eqb a b)
     (all_at endpoints (right a) (all_at endpoints (λ a. all_below endpoints (right a)) computed a l) b k)
 
+-- the singleton that code shifts a one for, and the one of a number above 31
+pub only_shifted : (a : ℕ) → a < endpoints → 1 * 2 ^ a % 2 ^ 32 ≡ only a
+unfolding only
+only_shifted a l = shl_exact 1 a endpoints (lit< tt) (omega arith) ∙ one-mul (2 ^ a) ∙ rw (lt-ltb a endpoints l)
+
+pub only_above : (a : ℕ) → endpoints ≤ a → empty ≡ only a
+unfolding only
+only_above a l = rw (le-ltb a endpoints l)
+
 -- so what is missing of a singleton is its endpoint, just where a set does not hold it
-pub only_missing : (a s : ℕ) → a < endpoints → missing (only a) s ≡ unheld s a
-only_missing a s l = one_missing (holds (only a)) a l (λ b k. only_holds a b l k) (holds s)
+pub only_missing : (a : ℕ) (t : Membership) → a < endpoints → lowest_missing (holds (only a)) t ≡ missing_one t a
+only_missing a t l = one_missing (holds (only a)) a l (λ b k. only_holds a b l k) t
+
+-- and it is within just the sets that hold its endpoint
+pub only_within : (a : ℕ) (t : Membership) → a < endpoints → subset (holds (only a)) t ≡ t a
+only_within a t l = one_subset (holds (only a)) a l (λ b k. only_holds a b l k) t
 
 -- ---- the word of a set that is given by membership
 

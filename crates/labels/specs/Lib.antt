@@ -1,3 +1,4 @@
 pub mod Membership
 pub mod Sets
 pub mod Addresses
+pub mod BitSets

@@ -1,6 +1,6 @@
 -- What it means that one set of endpoints is within another, which endpoint is missing where it is not, and what it means that two meet: said of
 -- membership alone, so that it holds of every representation of a set (document 01, "Marks and sets").
-use Rattle.std.specs.Prelude.{ℕ, zero, suc, Bool, true, false, not, ◌&&◌, ◌||◌, cond, eqb}
+use Rattle.std.specs.Prelude.{ℕ, zero, suc, Bool, true, false, not, ◌&&◌, ◌||◌, cond, eqb, ◌≡◌, Option, is_some, unwrap_or}
 
 -- which endpoints are in a set; document 01 calls an endpoint a mark
 abbrev pub Membership : Type 0
@@ -41,6 +41,13 @@ none_missing = endpoints
 
 abbrev pub is_none : ℕ → Bool
 is_none m = eqb m none_missing
+
+-- an option tells the same: the endpoint, and nothing in place of 32
+abbrev pub told_missing : Option ℕ → ℕ
+told_missing told = unwrap_or told none_missing
+
+abbrev pub Tells : Option ℕ → ℕ → Type 0
+Tells told m = (told_missing told ≡ m) × (is_some told ≡ not (is_none m))
 
 -- what is told of two sets: the lowest endpoint of the first that is missing in the second
 unfoldable pub lowest_missing : Membership → Membership → ℕ

@@ -9,20 +9,20 @@ use super::{EndpointSet, LAST_ENDPOINT};
 pub const HOSTS: u32 = 16;
 
 // The set of an address's message endpoint, the address itself; empty where the address is above 31.
-pub fn message_set(address: u32) -> EndpointSet
-    ensures { result.bits ≡ message_set address }
+pub fn message_set<S: EndpointSet>(address: u32) -> S
+    ensures { S.members result ≡ holds (message_set address) }
 {
-    EndpointSet::only(address)
+    S::only(address)
 }
 
 // The set of an address's event endpoint, http at its host; empty where the address is above 31.
-pub fn event_set(address: u32) -> EndpointSet
-    ensures { result.bits ≡ event_set address }
+pub fn event_set<S: EndpointSet>(address: u32) -> S
+    ensures { S.members result ≡ holds (event_set address) }
 {
     if LAST_ENDPOINT < address {
-        return EndpointSet::EMPTY;
+        return S::EMPTY;
     }
-    EndpointSet::only(address % HOSTS)
+    S::only(address % HOSTS)
 }
 
 // The endpoints of a host as a word: https there, and http unless https alone is asked for; 0 where the host is above 15.

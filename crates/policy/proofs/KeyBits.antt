@@ -110,14 +110,22 @@ unfolding map_below
 map_next zero test = omega arith
 map_next (suc n) test = rw (add-one, pow-suc 2 n) (omega (arith, rw add-one at (map_next n (λ k. test (suc k)))))
 
-pub added : (n keys : ℕ) (test : ℕ → Bool) (b : Bool) → n < host_keys → keys ≡ map_below n test → b ≡ test n
-    → keys + bool_byte b * 2 ^ n % 4294967296 ≡ map_below (n + 1) test
-added n keys test b l e t =
-    rw (e, mod-eq_of_lt (lt_of_le_of_lt (small b) (lt_trans (pow-lt l) (lit< tt))), as_digit b, t) (map_next n test)
-  where
-    small : (b : Bool) → bool_byte b * 2 ^ n ≤ 2 ^ n
-    small true = omega arith
-    small false = omega arith
-
 pub map_small : (n : ℕ) (test : ℕ → Bool) → n ≤ host_keys → map_below n test < 256
 map_small n test l = lt_of_lt_of_le (map_below_lem n test) (pow_mono l)
+
+module _ (n keys : ℕ) (test : ℕ → Bool) (b : Bool) (l : n < host_keys) (e : keys ≡ map_below n test) where
+  one_key : bool_byte b * 2 ^ n < 256
+  one_key = let small : 2 ^ n < 256 = pow-lt l in go b small
+    where
+      go : (b : Bool) → 2 ^ n < 256 → bool_byte b * 2 ^ n < 256
+      go true h = omega (arith, h)
+      go false h = omega arith
+
+  shifted : bool_byte b * 2 ^ n % 4294967296 ≡ bool_byte b * 2 ^ n
+  shifted = mod-eq_of_lt (lt_trans one_key (lit< tt))
+
+  pub added : b ≡ test n → keys + bool_byte b * 2 ^ n % 4294967296 ≡ map_below (n + 1) test
+  added t = rw (shifted, e, as_digit b, t) (map_next n test)
+
+  pub added_fits : keys + bool_byte b * 2 ^ n % 4294967296 < 4294967296
+  added_fits = let rest : map_below n test < 256 = map_small n test (omega arith) in rw (shifted, e) (omega (arith, one_key, rest))

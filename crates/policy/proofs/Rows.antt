@@ -4,12 +4,11 @@ use Rattle.prelude.proofs.Kit.{le-ltb, lt-ltb, eq-eqb, T, eqb, ltb, ltb→lt, T_
 use mathlib.Core.Bool.{or-false}
 use lib.Dec.{leb, leb→le, nleb→lt}
 use Rattle.prelude.proofs.Choices.{is_true, parts}
-use Rattle.labels.specs.Membership.{endpoints, all_below, is_none}
-use Rattle.labels.specs.Sets.{holds, within, missing}
+use Rattle.labels.specs.Membership.{endpoints, all_below}
+use Rattle.labels.specs.Sets.{holds, within}
 use Rattle.labels.specs.Addresses.{hosts, event_set}
 use Rattle.labels.proofs.Below.{same, all_at, all_of, or_cases, or_l}
-use Rattle.labels.proofs.Endpoints.{none_event}
-use Rattle.labels.proofs.Words.{within_none}
+use Rattle.labels.proofs.Endpoints.{event_within}
 use Rattle.machine.specs.Policy.{policy_words, url_rows, connections, address_word, url_address, url_readers, url_writers, url_event, https_hosts, no_address, empty_row, is_url, row_well_formed, connection_well_formed, partner_well_formed, well_formed}
 use Rattle.policy.specs.Given.{WellFormed, Url}
 use Rattle.policy.proofs.Addresses.{address_word_lem}
@@ -19,16 +18,15 @@ module _ (p : List ℕ) (u : ℕ) where
   pub named_full : url_address p u < endpoints → address_word p u ≡ no_address → ⊥
   named_full l e = absurd (omega (arith, address_word_lem p u l))
 
-  pub row_named : url_address p u < endpoints → is_none (missing (event_set (url_address p u)) (url_readers p u)) ≡ row_well_formed p u
+  pub row_named : url_address p u < endpoints → within (event_set (url_address p u)) (url_readers p u) ≡ row_well_formed p u
   unfolding row_well_formed empty_row
   row_named l =
-      none_event (url_address p u) (url_readers p u) l ∙ rw (ne_eqb (address_word p u) no_address (named_full l), lt-ltb (url_address p u) endpoints l)
+      event_within (url_address p u) (holds (url_readers p u)) l ∙ rw (ne_eqb (address_word p u) no_address (named_full l), lt-ltb (url_address p u) endpoints l)
 
   -- the test of an empty row
-  pub row_empty : url_readers p u < 2 ^ 32 → url_writers p u < 2 ^ 32
-      → (eqb (address_word p u) 255 && within (url_readers p u) 0) && within (url_writers p u) 0 ≡ empty_row p u
+  pub row_empty : (eqb (address_word p u) 255 && eqb (url_readers p u) 0) && eqb (url_writers p u) 0 ≡ empty_row p u
   unfolding empty_row
-  row_empty lr lw = rw (within_none (url_readers p u) lr, within_none (url_writers p u) lw, and_assoc)
+  row_empty = rw and_assoc
 
   -- a row without an address
   pub row_unnamed : endpoints ≤ url_address p u → empty_row p u ≡ row_well_formed p u

@@ -1,5 +1,5 @@
 // Whether a policy is well formed (document 01, "The policy"): refusal 2.
-ghost use Rattle.std.specs.Prelude.{◌≡◌, true, ◌&&◌, ◌+◌, ◌*◌, ◌^◌, ◌<◌, ◌≤◌, eqb, ltb, length, get_or};
+ghost use Rattle.std.specs.Prelude.{◌≡◌, true, ◌&&◌, ◌+◌, ◌*◌, ◌^◌, ◌<◌, ◌≤◌, eqb, ltb, get_or};
 ghost use Rattle.labels.specs.Membership.{endpoints, all_below};
 ghost use Rattle.labels.specs.Addresses.{hosts};
 ghost use Rattle.machine.specs.Policy.{policy_words, url_rows, connections, url_address, https_hosts};
@@ -7,12 +7,12 @@ ghost use Rattle.machine.specs.Policy.{empty_row, row_well_formed, connection_we
 ghost use Rattle.policy.specs.Given.{WellFormed};
 
 use super::words::{
-    CONNECTIONS, NO_PARTNER, URL_ROWS, WORDS, address_word, by_http, connection_readers,
-    https_hosts, https_word, lacks_address, script_readers, url_address, url_partner, url_readers,
-    url_writers,
+    CONNECTIONS, NO_PARTNER, PARTNERS_AT, URL_ROWS, WORDS, address_word, by_http,
+    connection_readers, https_hosts, https_word, lacks_address, script_readers, url_address,
+    url_partner, url_readers,
 };
+use labels::EndpointSet;
 use labels::addresses::{HOSTS, event_set};
-use labels::{EndpointSet, NONE_MISSING};
 
 // What stands in the place of an address in an empty row, whose sets are empty.
 const NO_ADDRESS: u32 = 255;
@@ -23,44 +23,43 @@ const HOSTS_END: u32 = 0x1_0000;
 // Rows are asked in groups of so many.
 const GROUP: usize = 8;
 
-fn row_empty(policy: &[u32], url: usize) -> bool
-    requires { (length policy.now ≡ policy_words) × (url < url_rows) }
+fn row_empty(policy: &[u32; WORDS], url: usize) -> bool
+    requires { url < url_rows }
     ensures { result ≡ empty_row policy.now url }
 {
-    (address_word(policy, url) == NO_ADDRESS)
-        & (url_readers(policy, url).missing(EndpointSet::EMPTY) == NONE_MISSING)
-        & (url_writers(policy, url).missing(EndpointSet::EMPTY) == NONE_MISSING)
+    let row = 3 * url;
+    (policy[row] == NO_ADDRESS) & (policy[row + 1] == 0) & (policy[row + 2] == 0)
 }
 
-fn row_well_formed(policy: &[u32], url: usize) -> bool
-    requires { (length policy.now ≡ policy_words) × (url < url_rows) }
+fn row_well_formed<S: EndpointSet>(policy: &[u32; WORDS], url: usize) -> bool
+    requires { url < url_rows }
     ensures { result ≡ row_well_formed policy.now url }
 {
     if lacks_address(policy, url) {
         return row_empty(policy, url);
     }
-    event_set(url_address(policy, url)).missing(url_readers(policy, url)) == NONE_MISSING
+    event_set::<S>(url_address(policy, url)).within(url_readers(policy, url))
 }
 
 // Two words that lie side by side as one, which the compiler reads at once.
-fn pair(policy: &[u32], at: usize) -> u64
-    requires { (length policy.now ≡ policy_words) × (at + 2 ≤ policy_words) }
+fn pair(policy: &[u32; WORDS], at: usize) -> u64
+    requires { at + 2 ≤ policy_words }
     ensures { result ≡ get_or policy.now at 0 + get_or policy.now (at + 1) 0 * 4294967296 }
 {
-    policy[at] as u64 + policy[at + 1] as u64 * 0x1_0000_0000
+    u64::from(policy[at]) + u64::from(policy[at + 1]) * 0x1_0000_0000
 }
 
 // In what two rows differ from two empty ones, whose words are 255, 0, 0, 255, 0, 0: 0 where they are empty.
-fn two_rows_left(policy: &[u32], first: usize) -> u64
-    requires { (length policy.now ≡ policy_words) × (first + 2 ≤ url_rows) }
+fn two_rows_left(policy: &[u32; WORDS], first: usize) -> u64
+    requires { first + 2 ≤ url_rows }
     ensures { eqb result 0 ≡ empty_row policy.now first && empty_row policy.now (first + 1) }
 {
     let at = 3 * first;
     (pair(policy, at) ^ 0xff) | (pair(policy, at + 2) ^ 0xff_0000_0000) | pair(policy, at + 4)
 }
 
-fn group_empty(policy: &[u32], first: usize) -> bool
-    requires { (length policy.now ≡ policy_words) × (first + 8 ≤ url_rows) }
+fn group_empty(policy: &[u32; WORDS], first: usize) -> bool
+    requires { first + 8 ≤ url_rows }
     ensures { result ≡ all_below 8 (λ i. empty_row policy.now (first + i)) }
 {
     two_rows_left(policy, first)
@@ -71,8 +70,8 @@ fn group_empty(policy: &[u32], first: usize) -> bool
 }
 
 // A policy with few URLs has groups of empty rows, which are quicker asked at once.
-fn group_well_formed(policy: &[u32], first: usize) -> bool
-    requires { (length policy.now ≡ policy_words) × (first + 8 ≤ url_rows) }
+fn group_well_formed<S: EndpointSet>(policy: &[u32; WORDS], first: usize) -> bool
+    requires { first + 8 ≤ url_rows }
     ensures { result ≡ all_below 8 (λ i. row_well_formed policy.now (first + i)) }
 {
     if address_word(policy, first) == NO_ADDRESS {
@@ -81,63 +80,61 @@ fn group_well_formed(policy: &[u32], first: usize) -> bool
         }
     }
     for i in 0..GROUP {
-        if !row_well_formed(policy, first + i) {
+        if !row_well_formed::<S>(policy, first + i) {
             return false;
         }
     }
     true
 }
 
-fn rows_well_formed(policy: &[u32]) -> bool
-    requires { length policy.now ≡ policy_words }
+fn rows_well_formed<S: EndpointSet>(policy: &[u32; WORDS]) -> bool
     ensures { result ≡ all_below url_rows (row_well_formed policy.now) }
 {
     for group in 0..URL_ROWS / GROUP {
-        if !group_well_formed(policy, GROUP * group) {
+        if !group_well_formed::<S>(policy, GROUP * group) {
             return false;
         }
     }
     true
 }
 
-fn connections_well_formed(policy: &[u32]) -> bool
-    requires { length policy.now ≡ policy_words }
+fn connections_well_formed<S: EndpointSet>(policy: &[u32; WORDS]) -> bool
     ensures { result ≡ all_below connections (connection_well_formed policy.now) }
 {
     let mut passed = true;
     for connection in 0..CONNECTIONS {
         let readers = connection_readers(policy, connection);
-        passed = (script_readers(policy, connection).missing(readers) == NONE_MISSING) & passed;
+        passed = script_readers::<S>(policy, connection).within(readers) & passed;
     }
     passed
 }
 
 // Where no host is listed: whether no URL has a partner.
-fn no_partners(policy: &[u32]) -> bool
-    requires { (length policy.now ≡ policy_words) × (https_hosts policy.now ≡ 0) }
+fn no_partners(policy: &[u32; WORDS]) -> bool
+    requires { https_hosts policy.now ≡ 0 }
     ensures { result ≡ all_below url_rows (partner_well_formed policy.now) }
 {
     let mut passed = true;
     for url in 0..URL_ROWS {
-        passed = (url_partner(policy, url) == NO_PARTNER) & passed;
+        passed = url_partner(policy, url).is_none() & passed;
     }
     passed
 }
 
 // Whether a URL is by http, at a host that is always https.
-fn is_replaced(policy: &[u32], url: usize) -> bool
-    requires { (length policy.now ≡ policy_words) × (url < url_rows) }
+fn is_replaced<S: EndpointSet>(policy: &[u32; WORDS], url: usize) -> bool
+    requires { url < url_rows }
     ensures { result ≡ is_replaced policy.now url }
 {
     if !by_http(policy, url) {
         return false;
     }
-    event_set(url_address(policy, url)).missing(https_hosts(policy)) == NONE_MISSING
+    event_set::<S>(url_address(policy, url)).within(https_hosts(policy))
 }
 
 // Whether a number names a URL by https at the host of `url`.
-fn is_partner(policy: &[u32], url: usize, partner: usize) -> bool
-    requires { (length policy.now ≡ policy_words) × (url < url_rows) × (url_address policy.now url < endpoints) }
+fn is_partner(policy: &[u32; WORDS], url: usize, partner: usize) -> bool
+    requires { (url < url_rows) × (url_address policy.now url < endpoints) }
     ensures { result ≡ is_partner policy.now url partner }
 {
     if URL_ROWS <= partner {
@@ -149,23 +146,22 @@ fn is_partner(policy: &[u32], url: usize, partner: usize) -> bool
     url_address(policy, partner) == HOSTS + url_address(policy, url) % HOSTS
 }
 
-fn partner_well_formed(policy: &[u32], url: usize) -> bool
-    requires { (length policy.now ≡ policy_words) × (url < url_rows) }
+fn partner_well_formed<S: EndpointSet>(policy: &[u32; WORDS], url: usize) -> bool
+    requires { url < url_rows }
     ensures { result ≡ partner_well_formed policy.now url }
 {
-    let partner = url_partner(policy, url);
-    if is_replaced(policy, url) {
-        return is_partner(policy, url, partner as usize);
+    let replaced = is_replaced::<S>(policy, url);
+    match url_partner(policy, url) {
+        Some(partner) => replaced && is_partner(policy, url, partner),
+        None => !replaced,
     }
-    partner == NO_PARTNER
 }
 
-fn partners_well_formed(policy: &[u32]) -> bool
-    requires { length policy.now ≡ policy_words }
+fn partners_well_formed<S: EndpointSet>(policy: &[u32; WORDS]) -> bool
     ensures { result ≡ all_below url_rows (partner_well_formed policy.now) }
 {
     for url in 0..URL_ROWS {
-        if !partner_well_formed(policy, url) {
+        if !partner_well_formed::<S>(policy, url) {
             return false;
         }
     }
@@ -173,8 +169,7 @@ fn partners_well_formed(policy: &[u32]) -> bool
 }
 
 // Where no host is listed, as in policy P, the partners are asked without looking at the rows.
-fn https_well_formed(policy: &[u32]) -> bool
-    requires { length policy.now ≡ policy_words }
+fn https_well_formed<S: EndpointSet>(policy: &[u32; WORDS]) -> bool
     ensures { result
         ≡ ltb (https_hosts policy.now) (2 ^ hosts) && all_below url_rows (partner_well_formed policy.now) }
 {
@@ -182,14 +177,13 @@ fn https_well_formed(policy: &[u32]) -> bool
     if hosts == 0 {
         return no_partners(policy);
     }
-    (hosts < HOSTS_END) & partners_well_formed(policy)
+    (hosts < HOSTS_END) & partners_well_formed::<S>(policy)
 }
 
-pub fn well_formed(policy: &[u32]) -> bool
+pub fn well_formed<S: EndpointSet>(policy: &[u32; WORDS]) -> bool
     ensures { (result ≡ well_formed policy.now) × (result ≡ true → WellFormed policy.now) }
 {
-    if policy.len() != WORDS {
-        return false;
-    }
-    rows_well_formed(policy) & connections_well_formed(policy) & https_well_formed(policy)
+    rows_well_formed::<S>(policy)
+        & connections_well_formed::<S>(policy)
+        & https_well_formed::<S>(policy)
 }

@@ -1,14 +1,11 @@
 -- `addresses::event_set` meets its contract: an address's event endpoint is its host, and above 31 there is none.
-use Rattle.prelude.proofs.Kit.{arith, le-ltb, lt-ltb}
-use Rattle.labels.specs.Membership.{endpoints}
-use Rattle.labels.specs.Sets.{empty}
-use Rattle.labels.specs.Addresses.{event_set}
+use Rattle.prelude.proofs.Kit.{arith, rules, ap, ◌∙◌}
+use Rattle.labels.specs.Sets.{holds}
+use Rattle.labels.proofs.Endpoints.{event_only, event_none}
 use Rattle.labels.proofs.addresses.event_set.Goals as goal
 
 pub returns-then-address-gt-LAST_ENDPOINT : goal.returns-then-address-gt-LAST_ENDPOINT
-unfolding event_set empty
-returns-then-address-gt-LAST_ENDPOINT c = rw (le-ltb c.args.address endpoints (omega arith))
+returns-then-address-gt-LAST_ENDPOINT g c = event_none c.args.address (omega arith) (search rules)
 
 pub returns : goal.returns
-unfolding event_set
-returns c = rw (lt-ltb c.args.address endpoints (omega arith)) c.only.ensures.singleton
+returns g c = c.only.ensures ∙ ap holds (event_only c.args.address (omega arith))

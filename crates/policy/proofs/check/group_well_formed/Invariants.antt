@@ -1,11 +1,7 @@
--- `check::group_well_formed` meets its contract: a group of empty rows, or one row after another up to the first that fails.
-use Rattle.prelude.proofs.Kit.{◌≤◌, ◌+◌, ◌-◌, true, ◌≡◌}
+use Rattle.prelude.proofs.Kit.{◌+◌, true, ◌≡◌}
 use Rattle.labels.specs.Membership.{all_below}
 use Rattle.machine.specs.Policy.{row_well_formed}
 use Rattle.policy.proofs.check.group_well_formed.Given as goal
 
 abbrev pub invariant-loop-i : goal.invariant-loop-i
-invariant-loop-i l = (l.i ≤ 8) × (true ≡ all_below l.i (λ j. row_well_formed l.policy (l.first + j)))
-
-abbrev pub decreases-loop-i : goal.decreases-loop-i
-decreases-loop-i l = 8 - l.i
+invariant-loop-i g l = true ≡ all_below l.i (λ j. row_well_formed l.policy (l.first + j))

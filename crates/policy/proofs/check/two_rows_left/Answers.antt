@@ -5,8 +5,6 @@ use Rattle.policy.proofs.check.two_rows_left.Goals as goal
 
 pub returns : goal.returns
 returns c =
-    let a = c.args in
-    let word = c.type_inv.policy in
-    let u = a.first in
-    rw (c.pair.ensures, c.pair-2.ensures, c.pair-3.ensures)
-    (two_rows a.policy.now u (word (3 * u)).fits (word (3 * u + 2)).fits (word (3 * u + 4)).fits)
+    let small = c.fits-policy in
+    let u = c.args.first in
+    rw (c.pair.ensures, c.pair-2.ensures, c.pair-3.ensures) (two_rows c.args.policy.now u (small (3 * u)) (small (3 * u + 2)) (small (3 * u + 4)))

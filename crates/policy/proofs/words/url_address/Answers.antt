@@ -5,4 +5,4 @@ use Rattle.policy.proofs.words.url_address.Goals as goal
 pub returns : goal.returns
 returns c =
     let start = c in
-    rw c.address_word.ensures (address_rest start.args.policy.now start.args.url start.requires.2)
+    rw c.address_word.ensures (address_rest start.args.policy.now start.args.url start.requires.1)

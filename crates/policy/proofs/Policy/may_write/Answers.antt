@@ -1,0 +1,8 @@
+-- `Policy::may_write` meets its contract: its tests are those of the definition.
+use Rattle.machine.specs.Policy.{may_write}
+use Rattle.policy.proofs.Policy.may_write.Goals as goal
+
+pub returns : goal.returns
+unfolding may_write
+returns g c =
+    rw (c.within.ensures, c.within-2.ensures, c.cookie_readers-readers.ensures, c.script_readers.ensures, c.connection_writers-writers.ensures, c.cookie_writers.ensures)

@@ -1,7 +1,0 @@
--- `fit_missing_writer` meets its contract: it asks what the definition asks.
-use Rattle.machine.specs.Policy.{fit_missing_writer}
-use Rattle.policy.proofs.fit_missing_writer.Goals as goal
-
-pub returns : goal.returns
-unfolding fit_missing_writer
-returns c = rw (c.message_missing.ensures, c.connection_writers.ensures)
