@@ -66,6 +66,9 @@ fn count(requests: &[u8]) -> Result<Tally, BadList>
     ensures { told result ≡ tallied requests.now }
 {
     let mut tally = nothing(ACCEPTED);
+    // The totals stand apart, where the compiler keeps them in registers.
+    let mut all_records = 0;
+    let mut all_cookies = 0;
     let mut left = requests;
     while !left.is_empty() {
         let first = records::decode_first(Direction::Request, left)?;
@@ -75,7 +78,7 @@ fn count(requests: &[u8]) -> Result<Tally, BadList>
         }
         let url = request.url as usize;
         tally.records[url] += 1;
-        tally.all_records += 1;
+        all_records += 1;
         // Such a request carries no cookies. Passed by a constant, it need not be measured before the next one is read.
         if first.length == SHORTEST_REQUEST {
             left = &left[SHORTEST_REQUEST..];
@@ -83,10 +86,14 @@ fn count(requests: &[u8]) -> Result<Tally, BadList>
         }
         let carried = records::count_keys(request.keys) as u32;
         tally.cookies[url] += carried;
-        tally.all_cookies += carried;
+        all_cookies += carried;
         left = &left[first.length..];
     }
-    Ok(tally)
+    Ok(Tally {
+        all_records,
+        all_cookies,
+        ..tally
+    })
 }
 
 // Counts a list of request records one right after another: include/usage.h. Every length and content is answered.

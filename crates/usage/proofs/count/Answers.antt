@@ -33,8 +33,8 @@ bytes m = bytes_next m.loop-left.invariant.counting (read m)
 small : (m : Else-not-in_range) →
     (get_or m.loop-left.tally.records m.in_ok-first.first.fields.url 0 + 1 ≤ length m.args.requests.now)
     × (get_or m.loop-left.tally.cookies m.in_ok-first.first.fields.url 0 + carried m.in_ok-first.first.fields ≤ 8 * length m.args.requests.now)
-    × (m.loop-left.tally.all_records + 1 ≤ length m.args.requests.now)
-    × (m.loop-left.tally.all_cookies + carried m.in_ok-first.first.fields ≤ 8 * length m.args.requests.now)
+    × (m.loop-left.all_records + 1 ≤ length m.args.requests.now)
+    × (m.loop-left.all_cookies + carried m.in_ok-first.first.fields ≤ 8 * length m.args.requests.now)
 small m = counts_small m.loop-left.invariant.counting (read m) (ranged m)
 
 its_cookies : (c : After-count_keys-carried) → c.count_keys-carried.result ≡ carried c.in_ok-first.first.fields
@@ -58,8 +58,8 @@ returns-then-not-in_range c =
 pub overflow_add-tally : goal.overflow_add-tally
 overflow_add-tally c = record { fits = omega (arith, (small (goal.at.overflow_add-tally c).Else-not-in_range).0, c.requires) }
 
-pub overflow_add-tally-in-loop-left : goal.overflow_add-tally-in-loop-left
-overflow_add-tally-in-loop-left c = record { fits = omega (arith, (small (goal.at.overflow_add-tally-in-loop-left c).Else-not-in_range).2, c.requires) }
+pub overflow_add-all_records : goal.overflow_add-all_records
+overflow_add-all_records c = record { fits = omega (arith, (small (goal.at.overflow_add-all_records c).Else-not-in_range).2, c.requires) }
 
 pub slice_bounds-left-count : goal.slice_bounds-left-count
 slice_bounds-left-count c = omega (arith, (bytes (goal.at.slice_bounds-left-count c).Else-not-in_range).1, c.if-first-eq-SHORTEST_REQUEST.true)
@@ -77,14 +77,14 @@ loop-left-preserved-then-first-eq-SHORTEST_REQUEST c =
       counting = rw (rest_is left 3) (rw short at (counting_passes c.loop-left.invariant.counting (read m) (ranged m) short));
     }
 
-pub overflow_add-tally-in-loop-left-2 : goal.overflow_add-tally-in-loop-left-2
-overflow_add-tally-in-loop-left-2 c =
-    let at = goal.at.overflow_add-tally-in-loop-left-2 c in
+pub overflow_add-tally-in-loop-left : goal.overflow_add-tally-in-loop-left
+overflow_add-tally-in-loop-left c =
+    let at = goal.at.overflow_add-tally-in-loop-left c in
     record { fits = omega (arith, (small at.Else-not-in_range).1, its_cookies at.After-count_keys-carried, c.requires) }
 
-pub overflow_add-tally-in-loop-left-3 : goal.overflow_add-tally-in-loop-left-3
-overflow_add-tally-in-loop-left-3 c =
-    let at = goal.at.overflow_add-tally-in-loop-left-3 c in
+pub overflow_add-all_cookies : goal.overflow_add-all_cookies
+overflow_add-all_cookies c =
+    let at = goal.at.overflow_add-all_cookies c in
     record { fits = omega (arith, (small at.Else-not-in_range).3, its_cookies at.After-count_keys-carried, c.requires) }
 
 pub slice_bounds-left-count-in-loop-left : goal.slice_bounds-left-count-in-loop-left
@@ -118,5 +118,5 @@ returns c =
     let all = (read_run Request c.args.requests.now).records in
     let done = counting_ends c.loop-left.invariant.counting (search rules) in
     let number = c.loop-left.invariant.none_refused in
-    (λ i. record { number = number i; records = t.records; cookies = t.cookies; all_records = t.all_records; all_cookies = t.all_cookies })
+    (λ i. record { number = number i; records = t.records; cookies = t.cookies; all_records = c.loop-left.all_records; all_cookies = c.loop-left.all_cookies })
     ∙ weighed all done.1 done.2 done.3 done.4 ∙ all_good c.args.requests.now c.requires done.0

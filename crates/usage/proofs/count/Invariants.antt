@@ -7,7 +7,7 @@ use Rattle.usage.proofs.count.Given as goal
 abbrev pub invariant-loop-left : goal.invariant-loop-left
 invariant-loop-left l = record {
   none_refused : l.tally.number ≡ accepted;
-  counting : Counting l.requests l.tally.records l.tally.cookies l.tally.all_records l.tally.all_cookies l.left;
+  counting : Counting l.requests l.tally.records l.tally.cookies l.all_records l.all_cookies l.left;
 }
 
 abbrev pub decreases-loop-left : goal.decreases-loop-left
