@@ -46,9 +46,9 @@ fn permit(reader: u32, writer: u32) -> Result<(), Forbidden>
 // A policy that is well formed, and a journey under it: what 2 and 17 do not refuse, in memory that is lent.
 #[derive(Clone, Copy)]
 pub struct Journey<'a> {
-    pub(crate) policy: &'a [u32],
-    pub(crate) urls: &'a [u8],
-    ghost good: { Journey policy.now urls.now },
+    pub policy: &'a [u32],
+    pub urls: &'a [u8],
+    pub ghost good: { Journey policy.now urls.now },
 }
 
 impl<'a> Journey<'a> {
