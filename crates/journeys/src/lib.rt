@@ -15,6 +15,7 @@ pub mod search;
 pub mod stops;
 
 use error::JourneyError;
+use labels::Bits;
 use legs::Journey;
 use policy::words::CONNECTIONS;
 
@@ -48,7 +49,7 @@ fn find(policy: &[u32], urls: &[u8]) -> Result<Option<usize>, JourneyError>
     ensures found { found_by result ≡ found policy.now urls.now }
     ensures one { IfOk result (λ carrier. IfSome carrier (λ c. c < connections)) }
 {
-    let journey = Journey::parse(policy, urls)?;
+    let journey = Journey::<Bits>::parse(policy, urls)?;
     Ok(journey.lowest_carrier())
 }
 
@@ -90,7 +91,7 @@ pub struct Stop {
 fn find_stop(policy: &[u32], urls: &[u8], connection: u32) -> Result<Stop, JourneyError>
     ensures { stopped_by result ≡ stopped policy.now urls.now connection }
 {
-    let journey = Journey::parse(policy, urls)?;
+    let journey = Journey::<Bits>::parse(policy, urls)?;
     if NO_CONNECTION <= connection {
         return Err(JourneyError::ConnectionUnknown);
     }

@@ -4,13 +4,14 @@ ghost use Rattle.machine.specs.Policy.{connections};
 ghost use Rattle.journeys.specs.Journey.{carries, carrier, fails_at};
 
 use super::legs::Journey;
+use labels::EndpointSet;
 use policy::words::CONNECTIONS;
 
-impl<'a> Journey<'a> {
+impl<'a, S: EndpointSet> Journey<'a, S> {
     // The first place whose URL a connection does not take.
     pub fn fails_at(self, connection: usize) -> Option<usize>
         requires { connection < connections }
-        ensures first { unwrap_or result (length self.entry.urls.now) ≡ fails_at self.entry.policy.now self.entry.urls.now connection }
+        ensures first { unwrap_or result (length self.entry.urls.now) ≡ fails_at self.entry.policy.words.now self.entry.urls.now connection }
         ensures within { IfSome result (λ i. i < length self.entry.urls.now) }
     {
         (0..self.urls.len()).find(|place| self.judge(connection, *place).is_err())
@@ -19,14 +20,14 @@ impl<'a> Journey<'a> {
     // Whether a connection takes each URL of the journey.
     fn carries(self, connection: usize) -> bool
         requires { connection < connections }
-        ensures { result ≡ carries self.entry.policy.now self.entry.urls.now connection }
+        ensures { result ≡ carries self.entry.policy.words.now self.entry.urls.now connection }
     {
         self.fails_at(connection).is_none()
     }
 
     // The lowest connection that does.
     pub fn lowest_carrier(self) -> Option<usize>
-        ensures lowest { unwrap_or result connections ≡ carrier self.entry.policy.now self.entry.urls.now }
+        ensures lowest { unwrap_or result connections ≡ carrier self.entry.policy.words.now self.entry.urls.now }
         ensures one { IfSome result (λ c. c < connections) }
     {
         (0..CONNECTIONS).find(|connection| self.carries(*connection))

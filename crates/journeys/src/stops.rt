@@ -10,21 +10,24 @@ use super::failure::Failure;
 use super::forbidden::Forbidden;
 use super::legs::Journey;
 use super::{ACCEPTED, Stop};
-use policy::{NONE_MISSING, fit_missing_reader, fit_missing_writer};
+use labels::EndpointSet;
+use policy::NONE_MISSING;
 
-impl<'a> Journey<'a> {
+impl<'a, S: EndpointSet> Journey<'a, S> {
     // Whether the endpoint that is missing is missing in a set of the URL, and not of the connection.
     #[tactic(auto, unfolding(crate::specs::Journey::of_url_number))]
     fn url_lacks(self, connection: usize, url: usize, forbidden: Forbidden) -> bool
-        requires { (connection < connections) × Url self.policy.now url }
-        ensures { result ≡ of_url_number self.entry.policy.now connection url (forbids forbidden) }
+        requires { (connection < connections) × Url self.policy.words.now url }
+        ensures { result ≡ of_url_number self.entry.policy.words.now connection url (forbids forbidden) }
     {
         match forbidden {
             Forbidden::Reader(missing) => {
-                missing == fit_missing_reader(self.policy, connection, url)
+                let reader = self.policy.fit_missing_reader(connection, url);
+                missing == reader.unwrap_or(NONE_MISSING)
             }
             Forbidden::Writer(missing) => {
-                missing != fit_missing_writer(self.policy, connection, url)
+                let writer = self.policy.fit_missing_writer(connection, url);
+                missing != writer.unwrap_or(NONE_MISSING)
             }
         }
     }
@@ -32,7 +35,7 @@ impl<'a> Journey<'a> {
     // At the first place whose URL a connection does not take; nowhere where it takes each.
     pub fn first_stop(self, connection: usize) -> Option<Failure>
         requires { connection < connections }
-        ensures stop { halted self.entry.urls.now result ≡ stop self.entry.policy.now self.entry.urls.now connection }
+        ensures stop { halted self.entry.urls.now result ≡ stop self.entry.policy.words.now self.entry.urls.now connection }
         ensures there { IfSome result (λ f. (f.place < length self.entry.urls.now) × (f.url < url_rows)) }
     {
         let place = self.fails_at(connection)?;
@@ -51,7 +54,7 @@ impl<'a> Journey<'a> {
     #[tactic(auto, using(prelude::proofs::Choices::as_digit))]
     pub(crate) fn stop(self, connection: usize) -> Stop
         requires { connection < connections }
-        ensures { result ≡ stop self.entry.policy.now self.entry.urls.now connection }
+        ensures { result ≡ stop self.entry.policy.words.now self.entry.urls.now connection }
     {
         match self.first_stop(connection) {
             Some(failure) => Stop {

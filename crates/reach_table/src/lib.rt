@@ -6,12 +6,11 @@ ghost use Rattle.std.specs.Prelude.{◌≡◌, map, ◌<◌, ◌≤◌, length, 
 ghost use Rattle.prelude.specs.Lists.{numbers};
 ghost use Rattle.prelude.specs.Sums.{sum_below};
 ghost use Rattle.machine.specs.Policy.{url_rows, connections};
-ghost use Rattle.policy.specs.Given.{WellFormed};
 ghost use Rattle.reach_table.specs.Reach.{reaches, reach, tabled, in_table};
 
-use policy::check::well_formed;
+use labels::{Bits, EndpointSet};
+use policy::Policy;
 use policy::words::{CONNECTIONS, URL_ROWS};
-use policy::{fits, is_url};
 use std::array;
 
 // The number of a policy that is not refused.
@@ -31,25 +30,24 @@ pub struct ReachTable {
 
 // Whether a row is not empty and a connection fits it, as it stands.
 #[tactic(auto, unfolding(crate::specs::Reach::reaches))]
-fn reaches(policy: &[u32], connection: usize, url: usize) -> bool
-    requires { WellFormed policy.now × (connection < connections) }
-    ensures { result ≡ reaches policy.now connection url }
+fn reaches<S: EndpointSet>(policy: Policy<'_, S>, connection: usize, url: usize) -> bool
+    requires { connection < connections }
+    ensures { result ≡ reaches policy.entry.words.now connection url }
 {
-    is_url(policy, url) && fits(policy, connection, url)
+    policy.is_url(url) && policy.fits(connection, url)
 }
 
-fn reach(policy: &[u32], connection: usize) -> u32
-    requires { WellFormed policy.now × (connection < connections) }
-    ensures { result ≡ reach policy.now connection }
+fn reach<S: EndpointSet>(policy: Policy<'_, S>, connection: usize) -> u32
+    requires { connection < connections }
+    ensures { result ≡ reach policy.entry.words.now connection }
 {
     (0..URL_ROWS)
         .map(|url| u32::from(reaches(policy, connection, url)))
         .sum()
 }
 
-fn reach_of_each(policy: &[u32]) -> [u32; CONNECTIONS]
-    requires { WellFormed policy.now }
-    ensures { result ≡ map (reach policy.now) (numbers 0 connections) }
+fn reach_of_each<S: EndpointSet>(policy: Policy<'_, S>) -> [u32; CONNECTIONS]
+    ensures { result ≡ map (reach policy.entry.words.now) (numbers 0 connections) }
 {
     array::from_fn(|connection| reach(policy, connection))
 }
@@ -67,13 +65,13 @@ fn total(urls: &[u32; CONNECTIONS]) -> u32
 pub extern "C" fn reach_count(policy: &[u32]) -> ReachTable
     ensures { result ≡ tabled policy.now }
 {
-    if !well_formed(policy) {
+    let Some(policy) = Policy::<Bits>::parse(policy) else {
         return ReachTable {
             number: POLICY_BAD,
             urls: [0; CONNECTIONS],
             all: 0,
         };
-    }
+    };
     let urls = reach_of_each(policy);
     let all = total(&urls);
     ReachTable {
@@ -89,7 +87,8 @@ pub extern "C" fn reach_count(policy: &[u32]) -> ReachTable
 pub extern "C" fn reach_fits(policy: &[u32], connection: u32, url: u32) -> bool
     ensures { result ≡ in_table policy.now connection url }
 {
-    well_formed(policy)
-        && (connection as usize) < CONNECTIONS
-        && reaches(policy, connection as usize, url as usize)
+    let Some(policy) = Policy::<Bits>::parse(policy) else {
+        return false;
+    };
+    (connection as usize) < CONNECTIONS && reaches(policy, connection as usize, url as usize)
 }

@@ -10,8 +10,8 @@ use Rattle.reach_table.proofs.Counting.{digits_are, digits_most}
 use Rattle.reach_table.proofs.reach.Goals as goal
 
 pub sum-requires-clause-fits : goal.sum-requires-clause-fits
-sum-requires-clause-fits c =
-    let test = reaches c.args.policy.now c.args.connection in
+sum-requires-clause-fits g c =
+    let test = reaches c.args.policy.words.now c.args.connection in
     let h : ℕ → ℕ = λ i. bool_byte (test i) in
     let small : sum_by h (range_with_len 0 url_rows) < 2 ^ 32 = omega (arith, digits_most test url_rows) in
     fits_by_from_yields_list h (range_with_len 0 url_rows) _ (2 ^ 32)
@@ -20,8 +20,8 @@ sum-requires-clause-fits c =
 
 pub returns : goal.returns
 unfolding reach
-returns c =
-    let test = reaches c.args.policy.now c.args.connection in
+returns g c =
+    let test = reaches c.args.policy.words.now c.args.connection in
     sum_by_from_yields_List (λ i. bool_byte (test i)) (range_with_len 0 url_rows) _ c.sum.result c.sum.ensures.ran
     (YieldsList-from_map _ (λ i. bool_byte (test i)) (YieldsList-from_range 0 url_rows url_rows c.map.ensures.source refl) c.map.ensures.closure (λ x r q k. search rules))
     ∙ digits_are test url_rows

@@ -6,4 +6,4 @@ use Rattle.reach_table.proofs.Counting.{filled_is}
 use Rattle.reach_table.proofs.reach_of_each.Goals as goal
 
 pub returns : goal.returns
-returns c = filled_is _ _ c.from_fn.result (reach c.args.policy.now) (λ i y q k. search rules) connections c.from_fn.ensures.items
+returns g c = filled_is _ _ c.from_fn.result (reach c.args.policy.words.now) (λ i y q k. search rules) connections c.from_fn.ensures.items

@@ -5,7 +5,7 @@ use Rattle.journeys.proofs.Searching.{all_is}
 use Rattle.journeys.proofs.legs.is_journey.Goals as goal
 
 pub returns : goal.returns
-returns c =
-    let p = c.args.policy.now in
+returns g c =
+    let p = c.args.policy.words.now in
     let urls = c.args.urls.now in
     all_is (length urls) (named p urls) c.all.result (search rules) ∙ by_names p urls (search rules) (search rules)
