@@ -1,5 +1,5 @@
 -- A text is compared with a word letter by letter, in any case, and a field with a name up to its first zero.
-use Rattle.prelude.proofs.Kit.{ℕ, ◌<◌, ◌+◌, suc, not, cond, take, arith, true, Bool, false, ◌&&◌, List, ◌∷◌, [], map, ◌≡◌, sym, ◌∙◌, refl, ap, ap₂, length, eqb}
+use Rattle.prelude.proofs.Kit.{ℕ, ◌+◌, suc, not, cond, take, arith, true, Bool, false, ◌&&◌, List, ◌∷◌, [], map, ◌≡◌, sym, ◌∙◌, refl, ap, ap₂, length, eqb}
 use mathlib.Core.Bool.{and-false}
 use Rattle.std.specs.Char.{to_ascii_lowercase}
 use Rattle.std.specs.List.{list_all, zip, prefix_len}

@@ -1,8 +1,8 @@
 -- Where a byte first stands tells what is before it and after it, and whether it stands there at all.
-use Rattle.prelude.proofs.Kit.{ℕ, ◌≤◌, ◌<◌, ◌+◌, ◌-◌, suc, zero, arith, true, Bool, false, true≢false, not, cond, ◌||◌, List, ◌∷◌, []}
-use Rattle.prelude.proofs.Kit.{◌≡◌, sym, ◌∙◌, refl, ap, length, take, drop, get_or, eqb, ltb, lt-ltb, le-ltb, ltb→lt, T, subst, take_all}
+use Rattle.prelude.proofs.Kit.{ℕ, ◌≤◌, ◌<◌, ◌+◌, ◌-◌, suc, arith, true, Bool, false, not, cond, ◌||◌, List, ◌∷◌, []}
+use Rattle.prelude.proofs.Kit.{◌≡◌, sym, ◌∙◌, refl, ap, length, take, drop, eqb, ltb, lt-ltb, le-ltb, ltb→lt, T, subst, take_all}
 use lib.Dec.{leb-suc-suc, nltb→le}
-use Rattle.std.specs.Prelude.{Option, Some, None, position}
+use Rattle.std.specs.Prelude.{Some, None, position}
 use Rattle.std.specs.List.{position_or_len}
 use Rattle.std.proofs.lemmas.Option.{same_Some, none-some}
 use Rattle.prelude.specs.Choice.{branch}

@@ -1,5 +1,5 @@
 -- The attributes of a line, one after another: those that were passed and those that are left make all.
-use Rattle.prelude.proofs.Kit.{ℕ, ◌≤◌, ◌<◌, suc, arith, true, Bool, false, ◌||◌, List, ◌∷◌, [], ◌≡◌, sym, ◌∙◌, refl, ap, ap₂, length, drop, eqb, cond}
+use Rattle.prelude.proofs.Kit.{ℕ, ◌≤◌, suc, arith, true, Bool, false, ◌||◌, List, ◌∷◌, [], ◌≡◌, sym, ◌∙◌, refl, ap, ap₂, length, drop, eqb, cond}
 use Rattle.std.specs.Prelude.{Option, Some, None}
 use Rattle.std.specs.Option.{option_copied}
 use denote.Ref.{Bor}

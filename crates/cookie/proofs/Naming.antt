@@ -1,5 +1,5 @@
 -- A name that is not empty is compared with a key's name and nothing else.
-use Rattle.prelude.proofs.Kit.{ℕ, ◌≤◌, ◌<◌, ◌+◌, ◌*◌, ◌/◌, suc, zero, arith, true, false, not, cond, ◌&&◌, Bool, List, ◌∷◌, [], ◌≡◌, sym, ◌∙◌, refl, ap, subst, T, T_not, length, take, drop, drop-drop, get_or, eqb, ne_eqb, eq-eqb, eqb·suc_zero}
+use Rattle.prelude.proofs.Kit.{ℕ, ◌<◌, ◌+◌, ◌*◌, ◌/◌, suc, zero, arith, true, not, ◌&&◌, Bool, List, ◌∷◌, [], ◌≡◌, sym, ◌∙◌, refl, ap, subst, T, length, take, drop, drop-drop, get_or, ne_eqb, eqb·suc_zero}
 use Rattle.std.specs.Prelude.{Option, Some, None, position}
 use Rattle.std.specs.Simd.{first_chunks}
 use Rattle.std.proofs.lemmas.List.Sums.{fails_before_first, passes_at_first}
@@ -48,14 +48,14 @@ module _ (names name : List ℕ) (some : 0 < length name) where
       let l : at < host_keys = omega (arith, i.0, fields_long host_keys names) in
       let passes : is_named names name at ≡ true = sym (told at l) ∙ ap (λ n. has_name (get_or fields n [])) i.1 ∙ passes_at_first has_name fields [] (omega (arith, i.0, i.1)) in
       let is_key : key_named names name ≡ at =
-          lowest_is host_keys (is_named names name) at l (subst T (sym passes) tt)
-          (λ j h. subst (λ b. T (not b)) (sym (sym (told j (omega (arith, h, l))) ∙ fails_before_first has_name fields j [] (omega (arith, h, i.1)))) tt) in
+      lowest_is host_keys (is_named names name) at l (subst T (sym passes) tt)
+      (λ j h. subst (λ b. T (not b)) (sym (sym (told j (omega (arith, h, l))) ∙ fails_before_first has_name fields j [] (omega (arith, h, i.1)))) tt) in
       rw (is_key, ne_eqb at host_keys (λ e. omega (arith, e, l)))
   first_named None p =
       let n = none_is has_name fields (sym p) in
       let is_none : key_named names name ≡ host_keys =
-          lowest_none host_keys (is_named names name)
-          (λ j h. subst (λ b. T (not b)) (sym (sym (told j h) ∙ fails_before_first has_name fields j [] (omega (arith, h, n, fields_long host_keys names)))) tt) in
+      lowest_none host_keys (is_named names name)
+      (λ j h. subst (λ b. T (not b)) (sym (sym (told j h) ∙ fails_before_first has_name fields j [] (omega (arith, h, n, fields_long host_keys names)))) tt) in
       rw is_none
 
   -- where they are lent as arrays

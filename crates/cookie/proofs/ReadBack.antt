@@ -12,7 +12,6 @@ use Rattle.text.proofs.Decimals.{decimal_ten}
 use Rattle.std.specs.Prelude.{Some}
 use Rattle.text.specs.Numbers.{is_digit, number_after, number_of, most_digits, largest, is_number, number_read}
 
-
 -- ---- a byte between two texts
 
 module _ (byte : ℕ) where

@@ -1,5 +1,5 @@
 -- Strides that do not have a byte are passed: before the first that has it, it stands nowhere.
-use Rattle.prelude.proofs.Kit.{ℕ, ◌≤◌, ◌<◌, ◌+◌, ◌-◌, ◌*◌, suc, zero, arith, true, Bool, false, not, cond, ◌||◌, List, ◌∷◌, []}
+use Rattle.prelude.proofs.Kit.{ℕ, ◌≤◌, ◌<◌, ◌+◌, ◌-◌, ◌*◌, suc, zero, arith, true, Bool, false, not, cond, List, ◌∷◌, []}
 use Rattle.prelude.proofs.Kit.{◌≡◌, sym, ◌∙◌, refl, ap, length, length-drop, take, drop, get_or, eqb, ltb, T, ⊎_elim, ltb→lt}
 use Rattle.prelude.proofs.Choices.{either}
 use lib.Dec.{nltb→le}
@@ -87,8 +87,8 @@ module _ (byte : ℕ) where
         let i = some_is is near (sym p ∙ e) in
         let l : at < stride = omega (arith, i.0, ap length front, length-take stride text) in
         is_some is text (position_or_len_is is text at 0 (omega (arith, l, long))
-            (λ k h. near_at k (omega (arith, h, l)) (fails_before_first is near k 0 (omega (arith, h, i.1))))
-            (λ h. near_at at l (ap (λ n. is (get_or near n 0)) i.1 ∙ passes_at_first is near 0 (omega (arith, i.0, i.1)))))
+        (λ k h. near_at k (omega (arith, h, l)) (fails_before_first is near k 0 (omega (arith, h, i.1))))
+        (λ h. near_at at l (ap (λ n. is (get_or near n 0)) i.1 ∙ passes_at_first is near 0 (omega (arith, i.0, i.1)))))
         (omega (arith, l, long))
 
     -- or far, after strides that do not have it

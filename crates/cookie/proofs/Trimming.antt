@@ -1,5 +1,5 @@
 -- What trimming takes off: blanks from the front, and bytes that pass a test from the end.
-use Rattle.prelude.proofs.Kit.{ℕ, ◌≤◌, ◌<◌, ◌+◌, ◌-◌, suc, zero, arith, true, Bool, false, not, cond, ◌&&◌, List, ◌∷◌, [], ◌++◌}
+use Rattle.prelude.proofs.Kit.{ℕ, ◌<◌, ◌+◌, ◌-◌, suc, zero, arith, true, Bool, false, not, cond, ◌&&◌, List, ◌∷◌, [], ◌++◌}
 use Rattle.prelude.proofs.Kit.{◌≡◌, sym, ◌∙◌, refl, ap, length, take, drop, get_or, eqb, length-append, eqb·suc_zero, drop_of_length-le}
 use lib.Seq.{take-suc, take-length}
 use Rattle.std.specs.Prelude.{Option, Some, None, position}

@@ -34,7 +34,10 @@ fn strides_without(text: &[u8], byte: u8) -> usize
     ensures { StridesLack byte text.now result }
 {
     let (strides, _) = text.as_chunks::<STRIDE>();
-    strides.iter().position(|stride| stride.contains(&byte)).unwrap_or(strides.len())
+    strides
+        .iter()
+        .position(|stride| stride.contains(&byte))
+        .unwrap_or(strides.len())
 }
 
 // What stands before the first such byte, or all of the text, and what stands behind it, where there is one.
@@ -93,5 +96,9 @@ pub fn trim(text: &[u8]) -> &[u8]
 pub fn is_word(text: &[u8], word: &[u8]) -> bool
     ensures { result ≡ is_word word.now text.now }
 {
-    text.len() == word.len() && text.iter().zip(word).all(|(byte, letter)| byte.to_ascii_lowercase() == *letter)
+    text.len() == word.len()
+        && text
+            .iter()
+            .zip(word)
+            .all(|(byte, letter)| byte.to_ascii_lowercase() == *letter)
 }

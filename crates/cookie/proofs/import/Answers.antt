@@ -1,6 +1,6 @@
 -- `import` meets its contract: at each return the tests before it say what is answered.
 use Rattle.std.proofs.Common.{rules, Err}
-use Rattle.prelude.proofs.Kit.{◌<◌, ◌≡◌, false, sym, ◌∙◌, ap, arith, length, drop, eqb}
+use Rattle.prelude.proofs.Kit.{◌≡◌, sym, ◌∙◌, ap, arith, length, drop}
 use Rattle.std.specs.Option.{option_copied}
 use Rattle.std.specs.Result.{result_ok}
 use Rattle.cookie.specs.declared.ImportError.TheVariants.{NoName, NoKey, NoNumber}
@@ -59,8 +59,8 @@ slice_bounds-flags_of-start c = omega (arith, ap length c.cut.ensures.front, bef
 pub overflow_cast-result : goal.overflow_cast-result
 overflow_cast-result c =
     let small =
-        key_small _ _ c.if-host-ge-HOSTS.false (line_is (goal.at.overflow_cast-result c).After-is_empty) (sym c.is_empty.ensures ∙ c.if-is_empty.false)
-        c.if-names-ne-NAMES_BYTES.false c.key_named.ensures (c.ok_or-2.ensures.ok_part ∙ ap result_ok c.in_ok-key.was)
+    key_small _ _ c.if-host-ge-HOSTS.false (line_is (goal.at.overflow_cast-result c).After-is_empty) (sym c.is_empty.ensures ∙ c.if-is_empty.false)
+    c.if-names-ne-NAMES_BYTES.false c.key_named.ensures (c.ok_or-2.ensures.ok_part ∙ ap result_ok c.in_ok-key.was)
     in
     search (rules, small)
 

@@ -1,5 +1,5 @@
 -- Each attribute in turn raises its flag, until none is left.
-use Rattle.prelude.proofs.Kit.{◌∙◌, ap, arith}
+use Rattle.prelude.proofs.Kit.{ap, arith}
 use Rattle.std.specs.Option.{option_copied}
 use Rattle.cookie.proofs.Flagging.{behind_shorter, nothing_left, flagging_begins, flagging_goes_on, flagging_ends}
 use Rattle.cookie.proofs.attributes.flags_of.Goals as goal

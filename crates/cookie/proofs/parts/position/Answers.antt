@@ -1,5 +1,5 @@
 -- The first bytes are looked at one by one, then strides, then what is left.
-use Rattle.prelude.proofs.Kit.{sym, ◌∙◌}
+use Rattle.prelude.proofs.Kit.{◌∙◌}
 use Rattle.cookie.proofs.Strides.{found_near, found_far, found_nowhere}
 use Rattle.cookie.proofs.parts.position.Goals as goal
 

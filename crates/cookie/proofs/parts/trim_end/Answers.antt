@@ -1,5 +1,4 @@
 -- The last byte stays where it does not pass, and is taken off where it does.
-use Rattle.std.proofs.Common.{rules}
 use Rattle.prelude.proofs.Kit.{arith, sym, ◌∙◌}
 use Rattle.cookie.proofs.Trimming.{last_passes, last_stays, none_stays}
 use Rattle.cookie.proofs.parts.trim_end.Goals as goal
