@@ -74,10 +74,8 @@ fn group_well_formed<S: EndpointSet>(policy: &[u32; WORDS], first: usize) -> boo
     requires { first + 8 ≤ url_rows }
     ensures { result ≡ all_below 8 (λ i. row_well_formed policy.now (first + i)) }
 {
-    if address_word(policy, first) == NO_ADDRESS {
-        if group_empty(policy, first) {
-            return true;
-        }
+    if address_word(policy, first) == NO_ADDRESS && group_empty(policy, first) {
+        return true;
     }
     (first..first + GROUP).all(|url| row_well_formed::<S>(policy, url))
 }
