@@ -79,7 +79,8 @@ fn count(requests: &[u8]) -> Result<Tally, BadList>
         let url = request.url as usize;
         tally.records[url] += 1;
         all_records += 1;
-        // Such a request carries no cookies. Passed by a constant, it need not be measured before the next one is read.
+        // Such a request carries no cookies. Passed by a constant, it need not be measured before the next one is read (without this arm a list
+        // of such requests takes half as long again).
         if first.length == SHORTEST_REQUEST {
             left = &left[SHORTEST_REQUEST..];
             continue;
