@@ -1,94 +1,117 @@
 -- The answers from number 6 on: each refusal where its test is the first that fails, and what is done where none does.
-use Rattle.prelude.proofs.Kit.{ℕ, ◌<◌, ◌+◌, ◌-◌, ◌*◌, zero-add, arith, true, List, ◌≡◌, sym, ◌∙◌, ap, subst, ne_eqb, eq-eqb, T, ltb, not, false}
-use Rattle.prelude.proofs.Kit.{length, take, drop, length-drop, length-take-le}
+use Rattle.prelude.proofs.Kit.{ℕ, ◌<◌, List, ◌≡◌, refl, ap, zero-add, true, false, eqb, arith}
+use Rattle.std.specs.Prelude.{Err}
 use Rattle.prelude.specs.Choice.{branch}
-use Rattle.prelude.specs.Refusals.{accepted}
-use Rattle.prelude.proofs.Refusals.{NoneOf, nth, first_is, none_applies}
-use Rattle.labels.specs.Membership.{none_missing, is_none}
-use Rattle.machine.specs.Scripts.{script_bytes, table_bytes, script_at, step_at, step_limit, starting_with, run_from, run_script}
-use Rattle.machine.specs.Session.{script_count, free, packed, kind_of, origin_of, handler_of, set_connection, request, send}
-use Rattle.machine.specs.Machine.{Event, Verdict, plain, event_refusals, perform, Fed}
-use Rattle.machine.specs.Guarantees.{refused_with}
+use Rattle.prelude.specs.Refusals.{accepted, first_of}
+use Rattle.records.specs.declared.errors.DecodeError.{DecodeError}
+use Rattle.records.specs.Results.{decode_number}
+use Rattle.records.specs.declared.errors.DecodeError.TheVariants.{UnknownKind, EmptyKeyMap, WrongLength}
+use Rattle.machine.specs.Session.{free, packed, set_connection, request, send}
+use Rattle.machine.specs.Scripts.{script_at, step_at, step_limit, starting_with, run_from, stopped, run_script}
+use Rattle.machine.specs.Machine.{Event, plain, named, awaited, label_refusals, event_refusals, receive, perform, Fed}
+use Rattle.machine.proofs.ConnectionWords.{kind_packed, origin_packed, handler_packed, url_packed}
+use Rattle.session.specs.declared.pending.Pending.{Pending}
+use Rattle.session.specs.Kinds.{number_of as number_of_kind}
+use Rattle.session.specs.Pending.{word_of}
 use Rattle.session.specs.Output.{Output, output, write_next, write_each}
-use Rattle.scripts.specs.declared.Ran.{Ran}
 use Rattle.scripts.specs.Reached.{Finished, ran, finished}
-use Rattle.monitor.specs.declared.answers.Done.{Done}
-use Rattle.monitor.specs.Answers.{fed, done, by_verdict, reaction}
+use Rattle.monitor.specs.declared.arrived.Arrived.{Arrived}
+use Rattle.monitor.specs.declared.arrived.Arrived.TheVariants.{DocumentResponse, ScriptResponse, PictureResponse, Redirect}
+use Rattle.monitor.specs.declared.done.Done.{Done}
+use Rattle.monitor.specs.declared.refusal.Refusal.{Refusal}
+use Rattle.monitor.specs.declared.refusal.Refusal.TheVariants.{OutputShort, PolicyBad, ScriptsBad, StateUnsound, Malformed, NameUnknown, NotAwaited, ReadersForbid, WritersForbid}
+use Rattle.monitor.specs.Answers.{fed, did, done, by_verdict, reaction}
+use Rattle.monitor.specs.Events.{told}
+use Rattle.monitor.specs.Refusals.{number_of, verdict_of}
 
--- what the code answers for a refusal
-abbrev pub Refused : Done → Verdict → Type 0
-Refused r told = (r.number ≡ told.number) × (r.bytes ≡ 0) × (r.steps ≡ 0) × (r.missing ≡ told.missing)
+-- no refusal has the number of what is accepted
+pub some_number : (e : Refusal) → eqb (number_of e) accepted ≡ false
+some_number OutputShort = refl
+some_number PolicyBad = refl
+some_number ScriptsBad = refl
+some_number StateUnsound = refl
+some_number (Malformed UnknownKind) = refl
+some_number (Malformed EmptyKeyMap) = refl
+some_number (Malformed WrongLength) = refl
+some_number NameUnknown = refl
+some_number NotAwaited = refl
+some_number (ReadersForbid endpoint) = refl
+some_number (WritersForbid endpoint) = refl
 
-pub as_refused : (r : Done) (told : Verdict) (s out : List ℕ) → Refused r told → fed r s out ≡ refused_with told s out
-as_refused r told s out e = rw (e.0, e.1, e.2, e.3)
-
--- what the code has found missing, and whether it is none
-pub none_told : {m k : ℕ} → m ≡ k → m ≡ none_missing → not (is_none k) ≡ false
-none_told {m} {k} e n = ap not (eq-eqb k none_missing (sym e ∙ n))
-
-pub one_told : {m k : ℕ} → m ≡ k → (m ≡ none_missing → ⊥) → not (is_none k) ≡ true
-one_told {m} {k} e n = ap not (ne_eqb k none_missing (λ f. n (e ∙ f)))
-
-pub forbidden_with : (r : Done) (number : ℕ) {m k : ℕ} → m ≡ k → Refused r (record { number = number; missing = m }) → Refused r (record { number = number; missing = k })
-forbidden_with r number e f = (f.0, f.1, f.2, f.3 ∙ e)
-
--- a call whose number is a refusal's
-pub by_refusal : (told : Verdict) (s out : List ℕ) (x : Fed) → T (ltb 0 told.number) → by_verdict told s out x ≡ refused_with told s out
-unfolding by_verdict branch
-by_refusal told s out x l = rw (ne_eqb told.number accepted (λ e. subst (λ (k : ℕ). T (ltb 0 k)) e l))
+-- nor has a fault of a record
+pub some_fault : (e : DecodeError) → decode_number e ≡ accepted → ⊥
+some_fault UnknownKind z = absurd (omega arith)
+some_fault EmptyKeyMap z = absurd (omega arith)
+some_fault WrongLength z = absurd (omega arith)
 
 module _ (p scripts s out : List ℕ) (e : Event) where
-  -- refusal n, where it is the first that applies
-  abbrev answer : ℕ → Verdict
-  answer n = (nth (plain accepted) n (event_refusals p s e)).answer
+  pub unnamed : named p e ≡ false → fed (Err NameUnknown) s out ≡ reaction p scripts s e out
+  unfolding reaction by_verdict first_of branch
+  unnamed f = rw f
 
-  pub refused_by_lem : (n : ℕ) (r : Done) → NoneOf (take n (event_refusals p s e)) → (nth (plain accepted) n (event_refusals p s e)).applies ≡ true
-      → T (ltb 0 (answer n).number) → Refused r (answer n) → fed r s out ≡ reaction p scripts s e out
-  unfolding reaction
-  refused_by_lem n r none test l f =
-      as_refused r (answer n) s out f ∙ sym (by_refusal (answer n) s out (done (perform p scripts s e) out) l)
-      ∙ ap (λ (told : Verdict). by_verdict told s out (done (perform p scripts s e) out)) (sym (first_is (plain accepted) n (event_refusals p s e) none test))
+  pub unawaited : named p e ≡ true → awaited s e ≡ false → fed (Err NotAwaited) s out ≡ reaction p scripts s e out
+  unfolding reaction by_verdict first_of branch
+  unawaited f g = rw (f, g)
 
-  -- what is done where none applies
-  pub performed : (x : Fed) → NoneOf (event_refusals p s e) → x ≡ done (perform p scripts s e) out → x ≡ reaction p scripts s e out
+  by_labels : named p e ≡ true → awaited s e ≡ true → first_of (event_refusals p s e) (plain accepted) ≡ first_of (label_refusals p e) (plain accepted)
+  unfolding first_of branch
+  by_labels f g = rw (f, g)
+
+  pub forbidden : named p e ≡ true → awaited s e ≡ true → (x : Refusal) → verdict_of x ≡ first_of (label_refusals p e) (plain accepted)
+      → fed (Err x) s out ≡ reaction p scripts s e out
   unfolding reaction by_verdict branch
-  performed x none f = rw (none_applies (plain accepted) (event_refusals p s e) none) f
+  forbidden f g x h = rw (by_labels f g, ← h) (rw (some_number x) refl)
+
+  pub performed : named p e ≡ true → awaited s e ≡ true → plain accepted ≡ first_of (label_refusals p e) (plain accepted)
+      → (x : Fed) → x ≡ done (perform p scripts s e) out → x ≡ reaction p scripts s e out
+  unfolding reaction by_verdict branch
+  performed f g h x k = rw (by_labels f g, ← h) k
 
 -- a request that was sent
-pub sent_done : (p s : List ℕ) (n kind origin handler u : ℕ) (bytes : ℕ) (t out next : List ℕ) → t ≡ set_connection n (packed kind origin handler u) s
-    → output bytes next ≡ write_next (request p s n kind handler u) (output 0 out)
-    → fed (record { number = accepted; bytes = bytes; steps = 0; missing = none_missing }) t next ≡ done (send p n kind origin handler u s) out
+pub sent_done : (p s : List ℕ) (n kind origin handler u : ℕ) (out : List ℕ) (d : Done) {t next : List ℕ} {at at' : ℕ} → at ≡ 0 → d.bytes ≡ at' → d.steps ≡ 0
+    → t ≡ set_connection n (packed kind origin handler u) s
+    → output at' next ≡ write_next (request p s n kind handler u) (output at out)
+    → did d t next ≡ done (send p n kind origin handler u s) out
 unfolding done send write_each
-sent_done p s n kind origin handler u bytes t out next e f = rw (e, ap (λ (o : Output). o.at) f, ap (λ (o : Output). o.buffer) f)
-
--- and one that moves the connection of a word
-pub moved_done : (p s : List ℕ) (n word u : ℕ) {kind origin handler bytes : ℕ} {t : List ℕ} (out : List ℕ) {next : List ℕ}
-    → kind ≡ kind_of word → origin ≡ origin_of word → handler ≡ handler_of word → t ≡ set_connection n (packed kind origin handler u) s
-    → output bytes next ≡ write_next (request p s n kind handler u) (output 0 out)
-    → fed (record { number = accepted; bytes = bytes; steps = 0; missing = none_missing }) t next ≡ done (send p n (kind_of word) (origin_of word) (handler_of word) u s) out
-moved_done p s n word u out ek eo eh e f =
-    sent_done p s n (kind_of word) (origin_of word) (handler_of word) u _ _ out _ (e ∙ rw (ek, eo, eh)) (f ∙ rw (ek, eh))
-
--- the part of the script table that is lent
-module _ (scripts : List ℕ) (x : ℕ) where
-  abbrev pub part : List ℕ
-  part = take (script_bytes * x + script_bytes - script_bytes * x) (drop (script_bytes * x) scripts)
-
-  pub part_is : part ≡ script_at scripts x
-  part_is = ap (λ (k : ℕ). take k (drop (script_bytes * x) scripts)) (width x)
-    where
-      width : (x : ℕ) → script_bytes * x + script_bytes - script_bytes * x ≡ script_bytes
-      width x = omega arith
-
-  pub part_length : length scripts ≡ table_bytes → x < script_count → length part ≡ script_bytes
-  part_length e l = ap length part_is ∙ length-take-le script_bytes (drop (script_bytes * x) scripts) (simp length-drop (omega arith))
+sent_done p s n kind origin handler u out d start bytes steps e f =
+    let g = rw start at f in
+    rw (bytes, steps, e, ap (λ (o : Output). o.at) g, ap (λ (o : Output). o.buffer) g)
 
 -- a script that was run, once the connection is freed
-pub run_done : (p scripts s : List ℕ) (n page x v : ℕ) (r : Ran) {code freed t : List ℕ} (out : List ℕ) {next : List ℕ}
-    → code ≡ script_at scripts x → freed ≡ set_connection n free s
-    → ran r t next ≡ finished 0 (run_from step_limit (step_at code) p n page 0 (starting_with v) freed) (output 0 out)
-    → fed (record { number = accepted; bytes = r.written; steps = r.steps; missing = none_missing }) t next ≡ done (run_script p scripts n page x v (set_connection n free s)) out
+pub run_done : (p table s : List ℕ) (n page x v : ℕ) (out : List ℕ) (d : Done) {q code freed t next : List ℕ} {n' page' at at' steps : ℕ} → at ≡ 0 → d.bytes ≡ at' → d.steps ≡ steps
+    → q ≡ p → code ≡ script_at table x → n' ≡ n → page' ≡ page → freed ≡ set_connection n free s
+    → ran steps t (output at' next) ≡ finished 0 (run_from step_limit (step_at code) q n' page' 0 (starting_with v) freed) (output at out)
+    → did d t next ≡ done (run_script p table n page x v (set_connection n free s)) out
 unfolding done run_script
-run_done p scripts s n page x v r out ec ef e =
-    let f = rw (ec, ef) at e in
-    rw (ap (λ (z : Finished). z.steps) f, ap (λ (z : Finished). z.state) f, ap (λ (z : Finished). z.output.at) f, ap (λ (z : Finished). z.output.buffer) f, zero-add _)
+run_done p table s n page x v out d start bytes steps ep ec en epage ef e =
+    let f = rw (ep, ec, en, epage, ef, start) at e in
+    rw (bytes, steps, ap (λ (z : Finished). z.steps) f, ap (λ (z : Finished). z.state) f, ap (λ (z : Finished). z.output.at) f, ap (λ (z : Finished). z.output.buffer) f, zero-add _)
+
+-- a connection that was freed, after which nothing runs
+pub freed_done : (s : List ℕ) (n : ℕ) (out : List ℕ) (d : Done) {t : List ℕ} {at : ℕ} → at ≡ 0 → d.bytes ≡ at → d.steps ≡ 0 → t ≡ set_connection n free s
+    → did d t out ≡ done (stopped (set_connection n free s)) out
+unfolding done stopped write_each
+freed_done s n out d start bytes steps e = rw (bytes, steps, e, start)
+
+-- what is received, by what arrived: the fields of the word that packs what is pending
+module _ (p table s : List ℕ) (n : ℕ) (out : List ℕ) (q : Pending) (lo : q.origin < 256) (lh : q.handler < 256) (lu : q.url < 256) {what : Arrived} {f : Fed} where
+  pub document : {x : ℕ} → what ≡ DocumentResponse x → f ≡ done (run_script p table n q.url x 0 (set_connection n free s)) out
+      → f ≡ done (receive p table n (word_of q) (told what) s) out
+  unfolding receive
+  document e h = rw (e, url_packed (number_of_kind q.kind) q.origin q.handler q.url lo lh lu) h
+
+  pub script : {v : ℕ} → what ≡ ScriptResponse v → f ≡ done (run_script p table n q.origin q.handler v (set_connection n free s)) out
+      → f ≡ done (receive p table n (word_of q) (told what) s) out
+  unfolding receive
+  script e h = rw (e, origin_packed (number_of_kind q.kind) q.origin q.handler q.url lo lh lu, handler_packed (number_of_kind q.kind) q.origin q.handler q.url lo lh lu) h
+
+  pub picture : what ≡ PictureResponse → f ≡ done (stopped (set_connection n free s)) out → f ≡ done (receive p table n (word_of q) (told what) s) out
+  unfolding receive
+  picture e h = rw e h
+
+  pub redirect : {t : ℕ} → what ≡ Redirect t → f ≡ done (send p n (number_of_kind q.kind) q.origin q.handler t s) out → f ≡ done (receive p table n (word_of q) (told what) s) out
+  unfolding receive
+  redirect e h =
+      rw
+      (e, kind_packed (number_of_kind q.kind) q.origin q.handler q.url lo lh lu, origin_packed (number_of_kind q.kind) q.origin q.handler q.url lo lh lu, handler_packed (number_of_kind q.kind) q.origin q.handler q.url lo lh lu)
+      h

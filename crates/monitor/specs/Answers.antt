@@ -1,5 +1,5 @@
 -- An answer of the code with the state and the buffer that it leaves, and what a record that can be read is answered.
-use Rattle.std.specs.Prelude.{ℕ, List, eqb}
+use Rattle.std.specs.Prelude.{ℕ, List, eqb, Result, Ok, Err}
 use Rattle.prelude.specs.Choice.{branch}
 use Rattle.prelude.specs.Refusals.{accepted, first_of}
 use Rattle.labels.specs.Membership.{none_missing}
@@ -8,13 +8,19 @@ use Rattle.machine.specs.Machine.{Event, Verdict, plain, event_refusals, perform
 use Rattle.machine.specs.Guarantees.{refused_with}
 use Rattle.session.specs.Output.{output, write_each}
 use Rattle.monitor.specs.declared.Answer.{Answer}
-use Rattle.monitor.specs.declared.answers.Done.{Done}
+use Rattle.monitor.specs.declared.done.Done.{Done}
+use Rattle.monitor.specs.declared.refusal.Refusal.{Refusal}
+use Rattle.monitor.specs.Refusals.{verdict_of}
 
 abbrev pub answered : Answer → List ℕ → List ℕ → Fed
 answered r s out = record { number = r.number; bytes = r.bytes; steps = r.steps; missing = r.missing; state = s; buffer = out }
 
-abbrev pub fed : Done → List ℕ → List ℕ → Fed
-fed r s out = record { number = r.number; bytes = r.bytes; steps = r.steps; missing = r.missing; state = s; buffer = out }
+abbrev pub did : Done → List ℕ → List ℕ → Fed
+did d s out = record { number = accepted; bytes = d.bytes; steps = d.steps; missing = none_missing; state = s; buffer = out }
+
+abbrev pub fed : Result Done Refusal → List ℕ → List ℕ → Fed
+fed (Ok d) s out = did d s out
+fed (Err e) s out = refused_with (verdict_of e) s out
 
 -- an accepted record, its requests written one after another
 unfoldable pub done : Effects → List ℕ → Fed

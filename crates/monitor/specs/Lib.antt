@@ -1,3 +1,4 @@
 pub mod Events
 pub mod Given
+pub mod Refusals
 pub mod Answers

@@ -1,291 +1,262 @@
 // What a load and what an arrival asks and does. The numbers from 6 on are asked here, in their order.
-ghost use Rattle.std.specs.Prelude.{◌≡◌, true, not, ◌&&◌, List, ℕ, ◌<◌, eqb, length};
+ghost use Rattle.std.specs.Prelude.{◌≡◌, true, ◌&&◌, List, ℕ, ◌<◌, T, [], ◌∷◌, is_some, IfSome};
+ghost use Rattle.prelude.specs.Refusals.{accepted, first_of};
 ghost use Rattle.machine.specs.Policy.{connections, is_url, is_connection, redirect_missing_reader, redirect_missing_writer};
-ghost use Rattle.machine.specs.Session.{free, script_count, kind_of, origin_of, handler_of, url_of, set_connection, send};
-ghost use Rattle.machine.specs.Scripts.{table_bytes, run_script};
-ghost use Rattle.machine.specs.Machine.{Load, carries_names, of_kind, to_target, receive};
-ghost use Rattle.policy.specs.Given.{WellFormed, Url};
-ghost use Rattle.session.specs.Given.{Session};
-ghost use Rattle.monitor.specs.Answers.{fed, done, reaction};
+ghost use Rattle.machine.specs.Session.{free, script_count, connection_word, sound, set_connection, send};
+ghost use Rattle.machine.specs.Scripts.{run_script};
+ghost use Rattle.machine.specs.Machine.{Load, carries_names, awaited, of_kind, to_target, receive, plain, forbid, readers_forbid, writers_forbid};
+ghost use Rattle.policy.specs.Given.{Url};
+ghost use Rattle.session.specs.Kinds.{number_of};
+ghost use Rattle.session.specs.Pending.{word_of};
+ghost use Rattle.monitor.specs.Answers.{fed, did, done, reaction};
 ghost use Rattle.monitor.specs.Events.{told, arrival, stored};
-ghost use Rattle.monitor.specs.Given.{Lent, Arriving, Names, Holds};
+ghost use Rattle.monitor.specs.Given.{Arriving, Names, Holds};
+ghost use Rattle.monitor.specs.Refusals.{judged};
 
-use super::answers::{
-    ACCEPTED, Done, NAME_UNKNOWN, NOT_AWAITED, READERS_FORBID, WRITERS_FORBID, forbidden, refused,
-};
+use super::arrived::Arrived;
+use super::done::Done;
+use super::refusal::{Refusal, permit};
+use labels::EndpointSet;
+use policy::Policy;
 use policy::words::CONNECTIONS;
-use policy::{
-    NONE_MISSING, fit_missing_reader, fit_missing_writer, is_url, redirect_missing_reader,
-    redirect_missing_writer, url_host,
-};
-use scripts::SCRIPT_BYTES;
-use session::cookies::store_cookies;
-use session::kinds::{DOCUMENT, PICTURE, SCRIPT};
-use session::pending::{FREE, Pending, SCRIPTS};
-use session::requests::send;
-use session::words::{connection_word, set_connection};
-
-// What can arrive on a connection: a document, with the script that it runs; a value for a script's request; a picture; a redirect to a target.
-#[derive(Clone, Copy)]
-pub enum Arrived {
-    DocumentResponse(usize),
-    ScriptResponse(u32),
-    PictureResponse,
-    Redirect(usize),
-}
-
-// What comes with it: cookies for the host of a URL, on a connection.
-#[derive(Clone, Copy)]
-pub struct Delivery {
-    pub url: usize,
-    pub connection: usize,
-    pub keys: u8,
-    pub cookies: [u32; 8],
-}
+use records::Record;
+use scripts::Table;
+use session::pending::SCRIPTS;
+use session::{Kind, Output, Pending, Session};
 
 // Whether a URL and a connection are named by their numbers.
-fn is_named(policy: &[u32], url: usize, connection: usize) -> bool
-    requires { WellFormed policy.now }
-    ensures { (result ≡ is_url policy.now url && is_connection connection)
-        × (result ≡ true → Url policy.now url × (connection < connections)) }
+fn is_named<S: EndpointSet>(policy: Policy<'_, S>, url: usize, connection: usize) -> bool
+    ensures { (result ≡ is_url policy.entry.words.now url && is_connection connection)
+        × (result ≡ true → Url policy.entry.words.now url × (connection < connections)) }
 {
-    is_url(policy, url) & (connection < CONNECTIONS)
+    policy.is_url(url) & (connection < CONNECTIONS)
 }
 
-// Whether the connection of a word is open and holds a URL.
-fn holds_url(word: u32, url: usize) -> bool
-    ensures { result ≡ not (eqb word free) && eqb (url_of word) url }
-{
-    (word != FREE) & (Pending::of(word).url == url)
-}
-
-pub fn load(
-    policy: &[u32],
-    state: &mut [u32],
+pub fn load<S: EndpointSet>(
+    session: &mut Session<'_, S>,
     url: usize,
     connection: usize,
-    out: &mut [u8],
-) -> Done
-    requires { Session policy.now state.old }
-    ensures { (scripts : List ℕ) → fed result state.new out.new
-        ≡ reaction policy.now scripts state.old (Load url connection) out.old }
+    out: &mut Output<'_>,
+) -> Result<Done, Refusal>
+    requires { out.old.at ≡ 0 }
+    ensures memory { session.new.words.ghost_name ≡ session.old.words.ghost_name }
+    ensures output_memory { out.new.buffer.ghost_name ≡ out.old.buffer.ghost_name }
+    ensures policy { session.new.policy.words.now ≡ session.old.policy.words.now }
+    ensures fed { (scripts : List ℕ) → fed result session.new.words.now out.new.buffer.now
+        ≡ reaction session.old.policy.words.now scripts session.old.words.now (Load url connection) out.old.buffer.now }
 {
+    let policy = session.policy();
     if !is_named(policy, url, connection) {
-        return refused(NAME_UNKNOWN);
+        return Err(Refusal::NameUnknown);
     }
-    let reader = fit_missing_reader(policy, connection, url);
-    if reader != NONE_MISSING {
-        return forbidden(READERS_FORBID, reader);
-    }
-    let writer = fit_missing_writer(policy, connection, url);
-    if writer != NONE_MISSING {
-        return forbidden(WRITERS_FORBID, writer);
-    }
-    let pending = Pending::bare(DOCUMENT, url);
-    Done {
-        number: ACCEPTED,
-        bytes: send(policy, state, connection, pending, out, 0),
-        steps: 0,
-        missing: NONE_MISSING,
-    }
+    let reader = policy.fit_missing_reader(connection, url);
+    let writer = policy.fit_missing_writer(connection, url);
+    permit(reader, writer)?;
+    let pending = Pending::bare(Kind::Document, url as u8);
+    session.send(connection, pending, out);
+    Ok(Done::of(out, 0))
 }
 
 // A response after which a script runs, once its cookies are stored. The connection is freed first, so that the script may open it.
-fn respond(
-    policy: &[u32],
-    scripts: &[u8],
-    state: &mut [u32],
+fn respond<S: EndpointSet>(
+    session: &mut Session<'_, S>,
+    table: Table<'_>,
     connection: usize,
-    page: usize,
-    script: usize,
+    page: u8,
+    script: u8,
     value: u32,
-    out: &mut [u8],
+    out: &mut Output<'_>,
 ) -> Done
-    requires { Session policy.now state.old × (connection < connections) × (length scripts.now ≡ table_bytes)
-        × Url policy.now page × (script < script_count) }
-    ensures { fed result state.new out.new
+    requires { (connection < connections) × Url session.old.policy.words.now page × (script < script_count) × (out.old.at ≡ 0) }
+    ensures memory { session.new.words.ghost_name ≡ session.old.words.ghost_name }
+    ensures output_memory { out.new.buffer.ghost_name ≡ out.old.buffer.ghost_name }
+    ensures policy { session.new.policy.words.now ≡ session.old.policy.words.now }
+    ensures did { did result session.new.words.now out.new.buffer.now
         ≡ done
-        (run_script policy.now scripts.now connection page script value (set_connection connection free state.old))
-        out.old }
+        (run_script session.old.policy.words.now table.entry.bytes.now connection page script value
+        (set_connection connection free session.old.words.now))
+        out.old.buffer.now }
 {
-    set_connection(state, connection, FREE);
-    let start = SCRIPT_BYTES * script;
-    let end = start + SCRIPT_BYTES;
-    let code = &scripts[start..end];
-    let ran = scripts::run(policy, state, code, connection, page, value, out);
-    Done {
-        number: ACCEPTED,
-        bytes: ran.written,
-        steps: ran.steps,
-        missing: NONE_MISSING,
-    }
+    session.free(connection);
+    let steps = table
+        .script(script, connection, page)
+        .run(session, value, out);
+    Done::of(out, steps)
 }
 
-// A redirect, once its cookies are stored: the connection of a word moves to the target.
-fn follow(
-    policy: &[u32],
-    state: &mut [u32],
+// A redirect, once its cookies are stored: what is pending on the connection moves to the target.
+fn follow<S: EndpointSet>(
+    session: &mut Session<'_, S>,
     connection: usize,
-    word: u32,
+    pending: Pending,
     target: usize,
-    out: &mut [u8],
+    out: &mut Output<'_>,
 ) -> Done
-    requires { Session policy.now state.old × (connection < connections) × Url policy.now target }
-    ensures { fed result state.new out.new
+    requires { (connection < connections) × Url session.old.policy.words.now target × (out.old.at ≡ 0) }
+    ensures memory { session.new.words.ghost_name ≡ session.old.words.ghost_name }
+    ensures output_memory { out.new.buffer.ghost_name ≡ out.old.buffer.ghost_name }
+    ensures policy { session.new.policy.words.now ≡ session.old.policy.words.now }
+    ensures did { did result session.new.words.now out.new.buffer.now
         ≡ done
-        (send policy.now connection (kind_of word) (origin_of word) (handler_of word) target state.old)
-        out.old }
+        (send session.old.policy.words.now connection (number_of pending.kind) pending.origin pending.handler target session.old.words.now)
+        out.old.buffer.now }
 {
-    let mut pending = Pending::of(word);
-    pending.url = target;
-    Done {
-        number: ACCEPTED,
-        bytes: send(policy, state, connection, pending, out, 0),
-        steps: 0,
-        missing: NONE_MISSING,
-    }
+    let moved = Pending {
+        url: target as u8,
+        ..pending
+    };
+    session.send(connection, moved, out);
+    Done::of(out, 0)
 }
 
 // Whether a number that something carries names a script, or a URL.
-fn carries_names(policy: &[u32], what: Arrived) -> bool
-    requires { WellFormed policy.now }
-    ensures { (result ≡ carries_names policy.now (told what))
-        × (result ≡ true → Names policy.now what) }
+fn carries_names<S: EndpointSet>(policy: Policy<'_, S>, what: Arrived) -> bool
+    ensures { (result ≡ carries_names policy.entry.words.now (told what))
+        × (result ≡ true → Names policy.entry.words.now what) }
 {
     match what {
-        Arrived::DocumentResponse(script) => script < SCRIPTS,
+        Arrived::DocumentResponse(script) => usize::from(script) < SCRIPTS,
         Arrived::ScriptResponse(_) => true,
         Arrived::PictureResponse => true,
-        Arrived::Redirect(target) => is_url(policy, target),
+        Arrived::Redirect(target) => policy.is_url(target),
     }
 }
 
 // Whether a connection of a kind waits for it.
-fn of_kind(kind: u32, what: Arrived) -> bool
-    ensures { result ≡ of_kind kind (told what) }
+fn of_kind(kind: Kind, what: Arrived) -> bool
+    ensures { result ≡ of_kind (number_of kind) (told what) }
 {
     match what {
-        Arrived::DocumentResponse(_) => kind == DOCUMENT,
-        Arrived::ScriptResponse(_) => kind == SCRIPT,
-        Arrived::PictureResponse => kind == PICTURE,
+        Arrived::DocumentResponse(_) => kind == Kind::Document,
+        Arrived::ScriptResponse(_) => kind == Kind::Script,
+        Arrived::PictureResponse => kind == Kind::Picture,
         Arrived::Redirect(_) => true,
     }
 }
 
-// What is missing: a reader, which 8 tells, and a writer, which 9 tells.
-#[derive(Clone, Copy)]
-struct Missing {
-    reader: u32,
-    writer: u32,
-}
-
-const NOTHING: Missing = Missing {
-    reader: NONE_MISSING,
-    writer: NONE_MISSING,
-};
-
-// What is missing for a redirect's target; for a response none is.
-fn target_missing(policy: &[u32], connection: usize, what: Arrived) -> Missing
-    requires { WellFormed policy.now × (connection < connections) × Names policy.now what }
-    ensures { (result.reader ≡ to_target (redirect_missing_reader policy.now connection) (told what))
-        × (result.writer ≡ to_target (redirect_missing_writer policy.now connection) (told what)) }
+// What is pending on the connection of a record, where it waits for what arrived.
+fn waiting<S: EndpointSet>(session: &Session<'_, S>, from: Record, what: Arrived) -> Option<Pending>
+    requires { Arriving session.now.policy.words.now from × T (sound session.now.policy.words.now session.now.words.now) }
+    ensures awaited { is_some result ≡ awaited session.now.words.now (arrival from (told what)) }
+    ensures word { IfSome result (λ pending. word_of pending ≡ connection_word session.now.words.now from.connection) }
+    ensures holds { IfSome result (λ pending. Holds session.now.policy.words.now pending what) }
 {
-    match what {
-        Arrived::DocumentResponse(_) => NOTHING,
-        Arrived::ScriptResponse(_) => NOTHING,
-        Arrived::PictureResponse => NOTHING,
-        Arrived::Redirect(target) => Missing {
-            reader: redirect_missing_reader(policy, connection, target),
-            writer: redirect_missing_writer(policy, connection, target),
-        },
+    let pending = session.pending(usize::from(from.connection))?;
+    if (pending.url == from.url) & of_kind(pending.kind, what) {
+        Some(pending)
+    } else {
+        None
     }
 }
 
-// What is accepted on the connection of a word, once its cookies are stored. The page of a document's script is the URL that the connection
-// holds; the response to a script's request is handled for the page that sent it; after a picture nothing runs.
-fn receive(
-    policy: &[u32],
-    scripts: &[u8],
-    state: &mut [u32],
+#[tactic(auto, unfolding(prelude::specs::Refusals::first_of, prelude::specs::Choice::branch))]
+// What labels forbid of a redirect's target; of a response they forbid nothing.
+fn permit_target<S: EndpointSet>(
+    policy: Policy<'_, S>,
     connection: usize,
-    word: u32,
     what: Arrived,
-    out: &mut [u8],
-) -> Done
-    requires { Session policy.now state.old × (connection < connections) × (length scripts.now ≡ table_bytes)
-        × Names policy.now what × Holds policy.now word what }
-    ensures { fed result state.new out.new
-        ≡ done
-        (receive policy.now scripts.now connection word (told what) state.old)
-        out.old }
+) -> Result<(), Refusal>
+    requires { (connection < connections) × Names policy.words.now what }
+    ensures { judged result
+        ≡ first_of
+        (forbid readers_forbid (to_target (redirect_missing_reader policy.entry.words.now connection) (told what))
+        ∷ forbid writers_forbid (to_target (redirect_missing_writer policy.entry.words.now connection) (told what))
+        ∷ [])
+        (plain accepted) }
 {
-    let pending = Pending::of(word);
+    match what {
+        Arrived::DocumentResponse(_) => Ok(()),
+        Arrived::ScriptResponse(_) => Ok(()),
+        Arrived::PictureResponse => Ok(()),
+        Arrived::Redirect(target) => {
+            let reader = policy.redirect_missing_reader(connection, target);
+            let writer = policy.redirect_missing_writer(connection, target);
+            permit(reader, writer)
+        }
+    }
+}
+
+// What is accepted on a connection, once its cookies are stored. The page of a document's script is the URL that the connection holds; the
+// response to a script's request is handled for the page that sent it; after a picture nothing runs.
+fn receive<S: EndpointSet>(
+    session: &mut Session<'_, S>,
+    table: Table<'_>,
+    connection: usize,
+    pending: Pending,
+    what: Arrived,
+    out: &mut Output<'_>,
+) -> Done
+    requires { (connection < connections) × Names session.old.policy.words.now what × Holds session.old.policy.words.now pending what × (out.old.at ≡ 0) }
+    ensures memory { session.new.words.ghost_name ≡ session.old.words.ghost_name }
+    ensures output_memory { out.new.buffer.ghost_name ≡ out.old.buffer.ghost_name }
+    ensures policy { session.new.policy.words.now ≡ session.old.policy.words.now }
+    ensures did { did result session.new.words.now out.new.buffer.now
+        ≡ done
+        (receive session.old.policy.words.now table.entry.bytes.now connection (word_of pending) (told what) session.old.words.now)
+        out.old.buffer.now }
+{
     match what {
         Arrived::DocumentResponse(script) => {
-            let page = pending.url;
-            respond(policy, scripts, state, connection, page, script, 0, out)
+            respond(session, table, connection, pending.url, script, 0, out)
         }
         Arrived::ScriptResponse(value) => {
             let page = pending.origin;
-            let handler = pending.handler;
             respond(
-                policy, scripts, state, connection, page, handler, value, out,
+                session,
+                table,
+                connection,
+                page,
+                pending.handler,
+                value,
+                out,
             )
         }
         Arrived::PictureResponse => {
-            set_connection(state, connection, FREE);
-            Done {
-                number: ACCEPTED,
-                bytes: 0,
-                steps: 0,
-                missing: NONE_MISSING,
-            }
+            session.free(connection);
+            Done::of(out, 0)
         }
-        Arrived::Redirect(target) => follow(policy, state, connection, word, target, out),
+        Arrived::Redirect(target) => follow(session, connection, pending, target, out),
     }
 }
 
-// Stores the cookies of a delivery, for the host of its URL.
-fn store(policy: &[u32], state: &mut [u32], from: Delivery)
-    requires { Arriving policy.now state.old from }
-    ensures { state.new ≡ stored policy.now from state.old }
+// Stores the cookies of a record, for the host of its URL.
+fn store<S: EndpointSet>(session: &mut Session<'_, S>, from: Record)
+    requires { Arriving session.old.policy.words.now from }
+    ensures memory { session.new.words.ghost_name ≡ session.old.words.ghost_name }
+    ensures policy { session.new.policy.words.now ≡ session.old.policy.words.now }
+    ensures words { session.new.words.now ≡ stored session.old.policy.words.now from session.old.words.now }
 {
-    let cookies = from.cookies;
-    let host = url_host(policy, from.url);
-    store_cookies(policy, state, from.connection, host, from.keys, cookies);
+    let host = session.policy().url_host(usize::from(from.url));
+    session.store_cookies(usize::from(from.connection), host, from.keys, from.cookies);
 }
 
 // Cookies are stored only once all is judged.
-pub fn arrive(
-    policy: &[u32],
-    scripts: &[u8],
-    state: &mut [u32],
-    from: Delivery,
+pub fn arrive<S: EndpointSet>(
+    session: &mut Session<'_, S>,
+    table: Table<'_>,
+    from: Record,
     what: Arrived,
-    out: &mut [u8],
-) -> Done
-    requires { Lent policy.now scripts.now state.old }
-    ensures { fed result state.new out.new
-        ≡ reaction policy.now scripts.now state.old (arrival from (told what)) out.old }
+    out: &mut Output<'_>,
+) -> Result<Done, Refusal>
+    requires { T (sound session.old.policy.words.now session.old.words.now) × (out.old.at ≡ 0) }
+    ensures memory { session.new.words.ghost_name ≡ session.old.words.ghost_name }
+    ensures output_memory { out.new.buffer.ghost_name ≡ out.old.buffer.ghost_name }
+    ensures policy { session.new.policy.words.now ≡ session.old.policy.words.now }
+    ensures fed { fed result session.new.words.now out.new.buffer.now
+        ≡ reaction session.old.policy.words.now table.entry.bytes.now session.old.words.now (arrival from (told what)) out.old.buffer.now }
 {
-    let connection = from.connection;
-    if !is_named(policy, from.url, connection) {
-        return refused(NAME_UNKNOWN);
+    let policy = session.policy();
+    let connection = usize::from(from.connection);
+    if !is_named(policy, usize::from(from.url), connection) {
+        return Err(Refusal::NameUnknown);
     }
     if !carries_names(policy, what) {
-        return refused(NAME_UNKNOWN);
+        return Err(Refusal::NameUnknown);
     }
-    let word = connection_word(state, connection);
-    if !(holds_url(word, from.url) & of_kind(Pending::of(word).kind, what)) {
-        return refused(NOT_AWAITED);
-    }
-    let missing = target_missing(policy, connection, what);
-    if missing.reader != NONE_MISSING {
-        return forbidden(READERS_FORBID, missing.reader);
-    }
-    if missing.writer != NONE_MISSING {
-        return forbidden(WRITERS_FORBID, missing.writer);
-    }
-    store(policy, state, from);
-    receive(policy, scripts, state, connection, word, what, out)
+    let Some(pending) = waiting(session, from, what) else {
+        return Err(Refusal::NotAwaited);
+    };
+    permit_target(policy, connection, what)?;
+    store(session, from);
+    Ok(receive(session, table, connection, pending, what, out))
 }

@@ -5,10 +5,13 @@ ghost use Rattle.std.specs.Prelude.{◌≡◌};
 ghost use Rattle.machine.specs.Machine.{feed};
 ghost use Rattle.monitor.specs.Answers.{answered};
 
-mod answers;
+mod arrived;
+mod done;
 mod events;
+mod refusal;
 mod refusals;
 
+use policy::NONE_MISSING;
 pub use refusals::OUTPUT_ROOM;
 use refusals::feed;
 
@@ -37,11 +40,18 @@ pub extern "C" fn monitor_feed(
     ensures { answered result state.new out.new
         ≡ feed policy.now scripts.now state.old bytes.now out.old }
 {
-    let done = feed(policy, scripts, state, bytes, out);
-    Answer {
-        number: done.number,
-        bytes: done.bytes as u32,
-        steps: done.steps,
-        missing: done.missing,
+    match feed(policy, scripts, state, bytes, out) {
+        Ok(done) => Answer {
+            number: 0,
+            bytes: done.bytes as u32,
+            steps: done.steps,
+            missing: NONE_MISSING,
+        },
+        Err(refusal) => Answer {
+            number: refusal.number(),
+            bytes: 0,
+            steps: 0,
+            missing: refusal.missing().unwrap_or(NONE_MISSING),
+        },
     }
 }

@@ -1,23 +1,23 @@
 // The refusals of what is lent, that of a malformed record, and then what the record's kind asks and does.
-ghost use Rattle.std.specs.Prelude.{◌≡◌};
+ghost use Rattle.std.specs.Prelude.{◌≡◌, T};
+ghost use Rattle.machine.specs.Session.{sound};
 ghost use Rattle.machine.specs.Machine.{plain_map, arrived_of, event_of, feed};
-ghost use Rattle.policy.specs.Given.{WellFormed};
 ghost use Rattle.monitor.specs.Answers.{fed, reaction};
 ghost use Rattle.monitor.specs.Events.{told};
-ghost use Rattle.monitor.specs.Given.{Lent};
 
-use super::answers::{
-    Done, OUTPUT_SHORT, POLICY_BAD, SCRIPTS_BAD, STATE_UNSOUND, refused,
-};
-use super::events::{Arrived, Delivery, arrive, load};
-use policy::check::well_formed;
-use policy::upgraded;
+use super::arrived::Arrived;
+use super::done::Done;
+use super::events::{arrive, load};
+use super::refusal::Refusal;
+use labels::{Bits, EndpointSet};
+use policy::Policy;
 use records::map_bytes::{
     DOCUMENT_RESPONSE, LOAD, PICTURE_RESPONSE, SCRIPT_RESPONSE, WITH_COOKIES,
 };
 use records::{Direction, LONGEST_REQUEST, Record};
-use scripts::{STEP_LIMIT, TABLE_BYTES};
+use scripts::{STEP_LIMIT, Table};
 use session::soundness::sound;
+use session::{Output, Session};
 
 // Room for as many requests as a script can send, each as long as can be.
 pub const OUTPUT_ROOM: usize = STEP_LIMIT as usize * LONGEST_REQUEST;
@@ -29,70 +29,66 @@ fn plain_map(map: u8) -> u8
     map - WITH_COOKIES * (map / WITH_COOKIES % 2)
 }
 
+#[tactic(auto, unfolding(machine::specs::Machine::arrived_of, prelude::specs::Choice::branch))]
 // What a record that is no load tells of.
-fn arrived_of(policy: &[u32], fields: Record) -> Arrived
-    requires { WellFormed policy.now }
-    ensures { told result ≡ arrived_of policy.now fields }
+fn arrived_of<S: EndpointSet>(policy: Policy<'_, S>, fields: Record) -> Arrived
+    ensures { told result ≡ arrived_of policy.entry.words.now fields }
 {
-    let plain = plain_map(fields.map);
-    if plain == DOCUMENT_RESPONSE {
-        return Arrived::DocumentResponse(fields.script as usize);
+    match plain_map(fields.map) {
+        DOCUMENT_RESPONSE => Arrived::DocumentResponse(fields.script),
+        SCRIPT_RESPONSE => Arrived::ScriptResponse(fields.value),
+        PICTURE_RESPONSE => Arrived::PictureResponse,
+        _ => Arrived::Redirect(policy.upgraded(usize::from(fields.target))),
     }
-    if plain == SCRIPT_RESPONSE {
-        return Arrived::ScriptResponse(fields.value);
-    }
-    if plain == PICTURE_RESPONSE {
-        return Arrived::PictureResponse;
-    }
-    Arrived::Redirect(upgraded(policy, fields.target as usize))
 }
 
 // A record that can be read.
-fn react(policy: &[u32], scripts: &[u8], state: &mut [u32], fields: Record, out: &mut [u8]) -> Done
-    requires { Lent policy.now scripts.now state.old }
-    ensures { fed result state.new out.new
-        ≡ reaction policy.now scripts.now state.old (event_of policy.now fields) out.old }
+fn react<S: EndpointSet>(
+    session: &mut Session<'_, S>,
+    table: Table<'_>,
+    fields: Record,
+    out: &mut Output<'_>,
+) -> Result<Done, Refusal>
+    requires { T (sound session.old.policy.words.now session.old.words.now) × (out.old.at ≡ 0) }
+    ensures memory { session.new.words.ghost_name ≡ session.old.words.ghost_name }
+    ensures output_memory { out.new.buffer.ghost_name ≡ out.old.buffer.ghost_name }
+    ensures policy { session.new.policy.words.now ≡ session.old.policy.words.now }
+    ensures fed { fed result session.new.words.now out.new.buffer.now
+        ≡ reaction session.old.policy.words.now table.entry.bytes.now session.old.words.now (event_of session.old.policy.words.now fields) out.old.buffer.now }
 {
-    let url = fields.url as usize;
-    let connection = fields.connection as usize;
+    let policy = session.policy();
     if plain_map(fields.map) == LOAD {
-        return load(policy, state, upgraded(policy, url), connection, out);
+        let url = policy.upgraded(usize::from(fields.url));
+        return load(session, url, usize::from(fields.connection), out);
     }
-    let cookies = fields.cookies;
-    let from = Delivery {
-        url,
-        connection,
-        keys: fields.keys,
-        cookies,
-    };
-    arrive(
-        policy,
-        scripts,
-        state,
-        from,
-        arrived_of(policy, fields),
-        out,
-    )
+    let what = arrived_of(policy, fields);
+    arrive(session, table, fields, what, out)
 }
 
-pub fn feed(policy: &[u32], scripts: &[u8], state: &mut [u32], bytes: &[u8], out: &mut [u8]) -> Done
+pub fn feed(
+    policy: &[u32],
+    scripts: &[u8],
+    state: &mut [u32],
+    bytes: &[u8],
+    out: &mut [u8],
+) -> Result<Done, Refusal>
     ensures { fed result state.new out.new
         ≡ feed policy.now scripts.now state.old bytes.now out.old }
 {
     if out.len() < OUTPUT_ROOM {
-        return refused(OUTPUT_SHORT);
+        return Err(Refusal::OutputShort);
     }
-    if !well_formed(policy) {
-        return refused(POLICY_BAD);
-    }
-    if scripts.len() != TABLE_BYTES {
-        return refused(SCRIPTS_BAD);
-    }
+    let Some(policy) = Policy::<Bits>::parse(policy) else {
+        return Err(Refusal::PolicyBad);
+    };
+    let Some(table) = Table::parse(scripts) else {
+        return Err(Refusal::ScriptsBad);
+    };
     if !sound(policy, state) {
-        return refused(STATE_UNSOUND);
+        return Err(Refusal::StateUnsound);
     }
-    match records::decode(Direction::Input, bytes) {
-        Ok(fields) => react(policy, scripts, state, fields, out),
-        Err(error) => refused(error.number()),
-    }
+    let fields = records::decode(Direction::Input, bytes)?;
+    let mut session = Session::new(policy, state);
+    let mut out = Output::new(out);
+    react(&mut session, table, fields, &mut out)
 }

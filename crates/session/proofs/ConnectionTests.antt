@@ -12,7 +12,7 @@ use Rattle.session.specs.Kinds.{bare_shape, bare_word, script_shape}
 -- ---- shapes
 
 -- a word is made of its fields
-packed_fields : (w : ℕ) → w ≡ packed (kind_of w) (origin_of w) (handler_of w) (url_of w)
+pub packed_fields : (w : ℕ) → w ≡ packed (kind_of w) (origin_of w) (handler_of w) (url_of w)
 unfolding packed kind_of origin_of handler_of url_of
 packed_fields w = omega arith
 

@@ -4,3 +4,4 @@ pub mod Made
 pub mod Outputs
 pub mod ConnectionTests
 pub mod Strays
+pub mod PendingWords

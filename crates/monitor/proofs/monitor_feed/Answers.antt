@@ -8,12 +8,8 @@ use Rattle.monitor.proofs.monitor_feed.Goals as goal
 
 pub overflow_cast-result : goal.overflow_cast-result
 overflow_cast-result c =
-    let call = c in
-    let bytes = call in
-    let scripts = bytes in
-    let a = scripts.args in
-    let e = ap (λ (f : Fed). f.bytes) call.feed-done.ensures in
+    let a = c.args in
+    let count = ap (λ (f : Fed). f.bytes) (rw c.in-Ok.is at c.feed.ensures) in
     let small = bytes_small a.policy.now a.scripts.now a.state.now a.bytes.now a.out.now
-    (bytes_are a.scripts.now (λ i. (scripts.type_inv.scripts i).fits)) (words_are a.state.now (search rules))
-    (bytes_are a.bytes.now (λ i. (bytes.type_inv.bytes i).fits)) in
-    record { fits = rw e (lt_of_le_of_lt (rw longest_is.1 at small) (lit< tt)) }
+    (bytes_are a.scripts.now (λ i. (c.type_inv.scripts i).fits)) (words_are a.state.now (search rules)) (bytes_are a.bytes.now (λ i. (c.type_inv.bytes i).fits)) in
+    record { fits = rw count (lt_of_le_of_lt (rw longest_is.1 at small) (lit< tt)) }

@@ -1,19 +1,12 @@
--- `events::follow` meets its contract: the request sent is what a redirect does.
-use Rattle.prelude.proofs.Kit.{zero-le}
-use Rattle.monitor.proofs.Reacting.{moved_done}
+-- `events::follow` meets its contract: the request of what is pending, to the target.
+use Rattle.session.specs.Kinds.{number_of}
+use Rattle.monitor.proofs.Reacting.{sent_done}
 use Rattle.monitor.proofs.events.follow.Goals as goal
 
-pub send-requires : goal.send-requires
-send-requires c =
-    let m = c in
-    let of = m.of-pending.ensures in
-    let (session, connection, target) = m.requires in
-    (session, target, connection, of.4, of.5, of.6, zero-le)
-
-pub returns : goal.returns
-returns c =
-    let call = c in
-    let m = call in
-    let a = m.args in
-    let of = m.of-pending.ensures in
-    moved_done a.policy.now a.state.now a.connection a.word a.target a.out.now of.0 of.1 of.2 call.send.ensures.0 call.send.ensures.1
+pub returns-clause-did : goal.returns-clause-did
+returns-clause-did g c =
+    let a = c.args in
+    let s = a.session.now in
+    let q = a.pending in
+    sent_done s.policy.words.now s.words.now a.connection (number_of q.kind) q.origin q.handler a.target a.out.now.buffer.now c.of.result
+    c.requires.2 c.of.ensures.bytes c.of.ensures.steps c.send.ensures.words c.send.ensures.written

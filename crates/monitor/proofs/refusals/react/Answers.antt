@@ -1,40 +1,19 @@
--- `refusals::react` meets its contract: the event of the fields is a load, or what arrived.
-use Rattle.prelude.proofs.Kit.{ℕ, List, ◌≡◌, sym, ◌∙◌, ap, ne_eqb, eq-eqb}
+-- `refusals::react` meets its contract: the event that the fields tell of.
+use Rattle.prelude.proofs.Kit.{◌≡◌, sym, ◌∙◌, ne_eqb, eq-eqb, rules}
 use Rattle.prelude.specs.Choice.{branch}
-use Rattle.records.specs.declared.Record.{Record}
-use Rattle.records.specs.Layout.{load}
-use Rattle.machine.specs.Policy.{upgraded}
-use Rattle.machine.specs.Machine.{Arrived, Event, Load, Arrival, plain_map, cookies_of, arrived_of, event_of}
-use Rattle.monitor.specs.Answers.{reaction}
+use Rattle.machine.specs.Machine.{arrived_of, cookies_of, event_of}
+use Rattle.monitor.specs.Events.{told}
 use Rattle.monitor.proofs.refusals.react.Goals as goal
 
-loads : (p : List ℕ) (f : Record) {u : ℕ} → plain_map f.map ≡ load → u ≡ upgraded p f.url → Load u f.connection ≡ event_of p f
+pub returns-then-plain_map-eq-LOAD-clause-fed : goal.returns-then-plain_map-eq-LOAD-clause-fed
 unfolding event_of branch
-loads p f e to = rw (eq-eqb (plain_map f.map) load e, to)
+returns-then-plain_map-eq-LOAD-clause-fed g c =
+    rw (eq-eqb _ _ (sym c.plain_map.ensures ∙ c.if-plain_map-eq-LOAD.true))
+    (rw (c.upgraded-url.ensures, c.policy-policy.ensures, c.from.ensures, c.from-then-plain_map-eq-LOAD.ensures) at (c.load.ensures.fed c.args.table.bytes.now))
 
-arrives : (p : List ℕ) (f : Record) {what : Arrived} → (plain_map f.map ≡ load → ⊥) → what ≡ arrived_of p f
-    → Arrival f.url f.connection (cookies_of f) what ≡ event_of p f
-unfolding event_of branch
-arrives p f other e = rw (ne_eqb (plain_map f.map) load other, e)
-
-pub returns-then-plain_map-eq-LOAD : goal.returns-then-plain_map-eq-LOAD
-returns-then-plain_map-eq-LOAD c =
-    let call = c in
-    let asked = call in
-    let then = asked in
-    let m = then in
-    let a = m.args in
-    call.load.ensures a.scripts.now
-    ∙ ap (λ (e : Event). reaction a.policy.now a.scripts.now a.state.now e a.out.now) (loads a.policy.now a.fields (sym m.plain_map.ensures ∙ then.if-plain_map-eq-LOAD.true) asked.upgraded.ensures)
-
-pub returns : goal.returns
-unfolding cookies_of
-returns c =
-    let call = c in
-    let of = call in
-    let otherwise = of in
-    let m = otherwise in
-    let a = m.args in
-    call.arrive.ensures
-    ∙ ap (λ (e : Event). reaction a.policy.now a.scripts.now a.state.now e a.out.now)
-    (arrives a.policy.now a.fields (λ e. otherwise.if-plain_map-eq-LOAD.false (m.plain_map.ensures ∙ e)) of.arrived_of.ensures)
+pub returns-clause-fed : goal.returns-clause-fed
+unfolding event_of branch cookies_of
+returns-clause-fed g c =
+    let p = c.args.session.now.policy.words.now in
+    let what : told c.arrived_of-what.result ≡ arrived_of p c.args.fields = search rules in
+    rw (ne_eqb _ _ (λ e. c.if-plain_map-eq-LOAD.false (c.plain_map.ensures ∙ e))) (rw what at c.arrive.ensures.fed)
