@@ -13,6 +13,7 @@ use journeys::error::JourneyError;
 use journeys::failure::Failure;
 use journeys::forbidden::Forbidden;
 use journeys::legs::Journey;
+use labels::Bits;
 use policy::words::CONNECTIONS;
 use text::Writer;
 
@@ -83,11 +84,11 @@ fn write_lack(text: &mut Writer<'_>, failure: Failure, connection: u32)
 }
 
 // The line of a connection that does not carry the journey.
-fn write_failure(text: &mut Writer<'_>, journey: Journey<'_>, connection: usize)
+fn write_failure(text: &mut Writer<'_>, journey: Journey<'_, Bits>, connection: usize)
     requires room { HasRoom text.old line_room }
     requires one { connection < connections }
-    requires fails { carries journey.policy.now journey.urls.now connection ≡ false }
-    ensures { Writes text.old (failure_text journey.entry.policy.now journey.entry.urls.now connection) text.new }
+    requires fails { carries journey.policy.words.now journey.urls.now connection ≡ false }
+    ensures { Writes text.old (failure_text journey.entry.policy.words.now journey.entry.urls.now connection) text.new }
 {
     let Some(failure) = journey.first_stop(connection) else {
         return;
@@ -99,10 +100,10 @@ fn write_failure(text: &mut Writer<'_>, journey: Journey<'_>, connection: usize)
     write_lack(text, failure, connection as u32);
 }
 
-fn write_none(text: &mut Writer<'_>, journey: Journey<'_>)
+fn write_none(text: &mut Writer<'_>, journey: Journey<'_, Bits>)
     requires room { HasRoom text.old report_room }
-    requires none { NoneCarries journey.policy.now journey.urls.now }
-    ensures { Writes text.old (none_text journey.entry.policy.now journey.entry.urls.now) text.new }
+    requires none { NoneCarries journey.policy.words.now journey.urls.now }
+    ensures { Writes text.old (none_text journey.entry.policy.words.now journey.entry.urls.now) text.new }
 {
     text.write_bytes(b"none\n");
     for connection in 0..CONNECTIONS {
@@ -131,7 +132,7 @@ pub fn write_report(text: &mut Writer<'_>, policy: &[u32], urls: &[u8])
     requires { HasRoom text.old report_room }
     ensures { Writes text.old (report policy.now urls.now) text.new }
 {
-    let journey = match Journey::parse(policy, urls) {
+    let journey = match Journey::<Bits>::parse(policy, urls) {
         Ok(journey) => journey,
         Err(error) => return text.write_bytes(refusal(error)),
     };

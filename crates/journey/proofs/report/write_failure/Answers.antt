@@ -9,12 +9,12 @@ use Rattle.journey.proofs.report.write_failure.Goals.{After-first_stop}
 use Rattle.journey.proofs.report.write_failure.Goals as goal
 
 few : (c : After-first_stop) → length c.args.journey.urls.now ≤ most_urls
-few c = few_urls c.args.journey.policy.now c.args.journey.urls.now c.args.journey.good.journey
+few c = few_urls c.args.journey.policy.words.now c.args.journey.urls.now c.args.journey.good.journey
 
 pub returns-in_default : goal.returns-in_default
 returns-in_default c =
     let j = c.args.journey in
-    absurd (stops j.policy.now j.urls.now c.args.connection c.first_stop.result c.in_default.is c.requires.fails c.first_stop.ensures.stop)
+    absurd (stops j.policy.words.now j.urls.now c.args.connection c.first_stop.result c.in_default.is c.requires.fails c.first_stop.ensures.stop)
 
 pub overflow_cast-nth : goal.overflow_cast-nth
 overflow_cast-nth c = omega (arith, few (goal.at.overflow_cast-nth c).After-first_stop, c.in-Some.ensures.there)
@@ -43,5 +43,5 @@ returns c =
     let f = c.in-Some.failure in
     let head = rw c.number.ensures at c.write_head.ensures in
     let place = rw c.from-url.ensures at c.write_place.ensures in
-    rw (← line_is j.policy.now j.urls.now c.args.connection f (stops_at j.policy.now j.urls.now c.args.connection (Some f) c.requires.fails c.in-Some.ensures.stop))
+    rw (← line_is j.policy.words.now j.urls.now c.args.connection f (stops_at j.policy.words.now j.urls.now c.args.connection (Some f) c.requires.fails c.in-Some.ensures.stop))
     (writes_then head (writes_then place c.write_lack.ensures))

@@ -7,6 +7,6 @@ use Rattle.journey.proofs.report.write_none.Given as goal
 
 abbrev pub invariant-loop-connection : goal.invariant-loop-connection
 invariant-loop-connection l =
-    let p = l.journey.policy.now in
+    let p = l.journey.policy.words.now in
     let urls = l.journey.urls.now in
     Listing connections line_room (failure_text p urls) (line_room_lem p urls) l.initial.text l.text l.connection
