@@ -8,7 +8,7 @@ ghost use Rattle.monitor.specs.declared.refusal.Refusal.TheVariants as refusals;
 
 use records::DecodeError;
 
-/// The refusals, in the order of their tests. Where readers or writers forbid it, the endpoint that is missing.
+// The refusals, in the order of their tests. Where readers or writers forbid it, the endpoint that is missing.
 #[derive(Clone, Copy, Debug, PartialEq, Eq)]
 pub enum Refusal {
     OutputShort,
@@ -39,7 +39,7 @@ impl Refusal {
         }
     }
 
-    /// The endpoint that is missing.
+    // The endpoint that is missing.
     pub fn missing(self) -> Option<u32>
         ensures { result ≡ missing_of self }
     {

@@ -21,10 +21,10 @@ impl<'a> Reader<'a> {
     // The next n bytes.
     fn take(&mut self, n: usize) -> Result<&'a [u8], DecodeError>
         ensures { MatchResult result (λ bytes. Taken n self.old.rest.now bytes.now self.new.rest.now)
-            (λ e. (e ≡ errors.WrongLength) × (length self.old.rest.now < n)) }
+            (λ e. (e ≡ errors.CutOrTooLong) × (length self.old.rest.now < n)) }
     {
         if self.rest.len() < n {
-            return Err(DecodeError::WrongLength);
+            return Err(DecodeError::CutOrTooLong);
         }
         let (bytes, rest) = self.rest.split_at(n);
         self.rest = rest;
@@ -55,7 +55,7 @@ impl<'a> Reader<'a> {
     {
         let keys = self.byte(is_set(map, COOKIES))?;
         if no_key_set(map, keys) {
-            return Err(DecodeError::EmptyKeyMap);
+            return Err(DecodeError::KeyMapEmpty);
         }
         Ok(keys)
     }
@@ -102,7 +102,7 @@ impl<'a> Reader<'a> {
                 self.rest = rest;
                 self.fields(*map)
             }
-            _ => Err(DecodeError::UnknownKind),
+            _ => Err(DecodeError::KindUnknown),
         }
     }
 }
