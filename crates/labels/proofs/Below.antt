@@ -1,11 +1,12 @@
 -- Tests: "or", tests that pass alike, and the bounded tests "all below", "any below" and "find below", each turned into what it says of every
 -- number, or of one, and back.
-use Rattle.prelude.proofs.Kit.{ℕ, ◌≤◌, ◌<◌, ◌+◌, suc, zero, add-zero, le_of_suc-le-suc, not-suc-le-zero, add-one, arith, true, ◌&&◌, Bool}
+use Rattle.prelude.proofs.Kit.{ℕ, ◌≤◌, ◌<◌, ◌+◌, ◌*◌, suc, zero, add-zero, le_of_suc-le-suc, not-suc-le-zero, add-one, arith, true, ◌&&◌, Bool}
 use Rattle.prelude.proofs.Kit.{false, not, ◌||◌, and_assoc, and-true, ⊎_elim, ◌≡◌, sym, refl, subst, T, and_i, and_r, and_l}
 use native.Mathlib.Nat.{add-suc, le_refl, le_step, eq-or-lt_of_le}
 use mathlib.Core.Bool.{and_comm}
 use mathlib.Core.Logic.{◌⊎◌, inl, inr}
 use Rattle.prelude.proofs.Choices.{either, is_true, is_false}
+use Rattle.std.specs.List.{list_all, range_with_len}
 use Rattle.labels.specs.Membership.{all_below, any_below, find_below}
 
 pub or_cases : (x y : Bool) → T (x || y) → T x ⊎ T y
@@ -74,6 +75,29 @@ part_passed m n test e f = rw (← all_parts m n test, ← e, ← f)
 pub part_failed : (k m n : ℕ) (test : ℕ → Bool) → n + m ≤ k → false ≡ all_below m (λ i. test (n + i)) → false ≡ all_below k test
 part_failed k m n test l e =
     same false (all_below k test) (λ t. absurd t) (λ t. subst T (sym e) (all_of m (λ i. test (n + i)) (λ i h. all_at k test t (n + i) (omega arith))))
+
+-- parts of n tests each
+pub grouped : (m n : ℕ) (test : ℕ → Bool) → all_below m (λ g. all_below n (λ i. test (n * g + i))) ≡ all_below (n * m) test
+unfolding all_below
+grouped zero n test = let none : n * 0 ≡ 0 = omega arith in rw none refl
+grouped (suc m) n test = let more : n * suc m ≡ n * m + n = omega arith in rw (more, grouped m n test) (all_parts n (n * m) test)
+
+-- `all` over a range
+pub ranged : (n a : ℕ) (test f : ℕ → Bool) → ((i : ℕ) → i < n → test (a + i) ≡ f i) → list_all test (range_with_len a n) ≡ all_below n f
+ranged n a test f e =
+    same (list_all test (range_with_len a n)) (all_below n f) (λ t. all_of n f (λ i l. subst T (e i l) (each n a t i l)))
+    (λ t. whole n a (λ i l. subst T (sym (e i l)) (all_at n f t i l)))
+  where
+    each : (n a : ℕ) → T (list_all test (range_with_len a n)) → (i : ℕ) → i < n → T (test (a + i))
+    each zero a t i l = absurd (not-suc-le-zero l)
+    each (suc n) a t zero l = rw (add-zero a) (and_l (test a) _ t)
+    each (suc n) a t (suc i) l = let next : a + suc i ≡ a + 1 + i = omega arith in rw next (each n (a + 1) (and_r (test a) _ t) i (le_of_suc-le-suc l))
+
+    whole : (n a : ℕ) → ((i : ℕ) → i < n → T (test (a + i))) → T (list_all test (range_with_len a n))
+    whole zero a h = tt
+    whole (suc n) a h =
+        and_i (test a) _ (rw add-zero at (h zero (omega arith)))
+        (whole n (a + 1) (λ i l. let next : a + 1 + i ≡ a + suc i = omega arith in rw next (h (suc i) (omega (arith, l)))))
 
 -- four tests from n on: code asks the first one first, and the definition the last
 pub four : (n : ℕ) (test : ℕ → Bool) → ((test n && test (n + 1)) && test (n + 2)) && test (n + 3) ≡ all_below 4 (λ i. test (n + i))

@@ -1,14 +1,15 @@
 -- The sets of an address's endpoints: what is missing of one is the endpoint, just where a set does not hold it. And the words of a host's endpoints.
 use Rattle.prelude.proofs.Kit.{ℕ, ◌≤◌, ◌<◌, ◌+◌, ◌^◌, ◌%◌, arith, true, false, Bool, ◌&&◌, cond, ◌≡◌, refl, T, ltb, ltb→lt, and_l, and_r, lt-ltb, le-ltb, ne_eqb, not_T}
 use Rattle.prelude.proofs.Kit.{⊎_elim}
-use mathlib.Core.Bool.{beq, and-false}
+use mathlib.Core.Bool.{and-false}
+use Rattle.std.proofs.lemmas.Bool.{agree_below, agree_below_at}
 use lib.Dec.{nltb→le}
-use Rattle.prelude.proofs.Choices.{either, is_false}
+use Rattle.prelude.proofs.Choices.{either, is_true, is_false}
 use Rattle.labels.specs.Membership.{Membership, endpoints, all_below, subset, lowest_missing, missing_one}
 use Rattle.labels.specs.Sets.{holds, only, empty, word_of}
 use Rattle.labels.specs.Addresses.{hosts, message_endpoint, event_endpoint, message_set, event_set, host_endpoints}
 use Rattle.labels.proofs.Below.{all_at}
-use Rattle.labels.proofs.Words.{only_missing, only_within, empty_holds, beq_eq, word_holds}
+use Rattle.labels.proofs.Words.{only_missing, only_within, empty_holds, word_holds}
 
 -- an address is its own message endpoint, and above 31 its singleton is empty as well
 pub message_only : (a : ℕ) → only a ≡ message_set a
@@ -50,17 +51,15 @@ https h = 2 ^ (hosts + h)
 abbrev both : ℕ → ℕ
 both h = https h + 2 ^ h
 
-abbrev same : ℕ → ℕ → Bool → ℕ → Bool
-same w h b a = beq (holds w a) (host_endpoints h b a)
-
-right_at : ℕ → ℕ → Bool
-right_at h a = same (https h) h true a && same (both h) h false a
+-- the word holds the host's endpoints, https alone or both
+right_for : ℕ → ℕ → Bool → Bool
+right_for w h alone = agree_below (holds w) (host_endpoints h alone) endpoints
 
 right : ℕ → Bool
-right h = ltb (both h) (2 ^ 32) && all_below endpoints (right_at h)
+right h = ltb (both h) (2 ^ 32) && (right_for (https h) h true && right_for (both h) h false)
 
 computed : T (all_below hosts right)
-unfolding right right_at all_below holds host_endpoints
+unfolding right right_for all_below holds host_endpoints
 computed = tt
 
 endpoint_or_not : {A : Type 0} (a : ℕ) → (a < endpoints → A) → (endpoints ≤ a → A) → A
@@ -74,29 +73,23 @@ module _ (h : ℕ) (l : h < hosts) where
   unfolding right
   both_below = ltb→lt (both h) (2 ^ 32) (and_l (ltb (both h) (2 ^ 32)) _ one_right)
 
-  right_at_lem : (a : ℕ) → a < endpoints → T (right_at h a)
-  unfolding right
-  right_at_lem a k = all_at endpoints (right_at h) (and_r (ltb (both h) (2 ^ 32)) _ one_right) a k
-
   -- a number above 31 is in no word, and no endpoint of a host
   none_above : (w a : ℕ) (b : Bool) → endpoints ≤ a → holds w a ≡ host_endpoints h b a
   unfolding holds host_endpoints
   none_above w a b k =
       rw (le-ltb a endpoints k, lt-ltb h hosts l, ne_eqb a (hosts + h) (λ e. omega (arith, e, k, l)), ne_eqb a h (λ e. omega (arith, e, k, l)), and-false)
 
+  held : (w : ℕ) (alone : Bool) → T (right_for w h alone) → (a : ℕ) → holds w a ≡ host_endpoints h alone a
+  unfolding right_for
+  held w alone t a = endpoint_or_not a (agree_below_at (holds w) (host_endpoints h alone) endpoints a (is_true _ t)) (none_above w a alone)
+
   pub https_holds : (a : ℕ) → holds (https h) a ≡ host_endpoints h true a
-  unfolding right_at
-  https_holds a =
-      endpoint_or_not a
-      (λ k. beq_eq (holds (https h) a) (host_endpoints h true a) (and_l (same (https h) h true a) (same (both h) h false a) (right_at_lem a k)))
-      (none_above (https h) a true)
+  unfolding right
+  https_holds = held (https h) true (and_l (right_for (https h) h true) _ (and_r (ltb (both h) (2 ^ 32)) _ one_right))
 
   pub both_hold : (a : ℕ) → holds (both h) a ≡ host_endpoints h false a
-  unfolding right_at
-  both_hold a =
-      endpoint_or_not a
-      (λ k. beq_eq (holds (both h) a) (host_endpoints h false a) (and_r (same (https h) h true a) (same (both h) h false a) (right_at_lem a k)))
-      (none_above (both h) a false)
+  unfolding right
+  both_hold = held (both h) false (and_r (right_for (https h) h true) _ (and_r (ltb (both h) (2 ^ 32)) _ one_right))
 
   -- the word of either holds just these, of all numbers
   pub host_word : (b : Bool) (a : ℕ) → holds (word_of (host_endpoints h b)) a ≡ host_endpoints h b a

@@ -70,6 +70,11 @@ module _ (s t : Membership) where
       (λ one. rw (ne_eqb (lowest_missing s t) none_missing (λ e. omega (arith, one.0, e)))
       (sym (is_false (subset s t) (missing_not_subset (lowest_missing s t) one.0 (and_l (is_missing s t (lowest_missing s t)) _ one.1))))) told
 
+  pub none_lowest : ((a : ℕ) → a < endpoints → T (not (is_missing s t a))) → none_missing ≡ lowest_missing s t
+  unfolding is_lowest_missing
+  none_lowest f =
+      ⊎_elim (λ none. sym none.1) (λ one. absurd (T_not (is_missing s t (lowest_missing s t)) (f (lowest_missing s t) one.0) (and_l (is_missing s t (lowest_missing s t)) _ one.1))) told
+
   pub missing_most : lowest_missing s t ≤ none_missing
   missing_most = ⊎_elim (λ none. omega (arith, none.1)) (λ one. omega (arith, one.0)) told
 

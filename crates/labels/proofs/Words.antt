@@ -3,18 +3,21 @@ use Rattle.prelude.proofs.Kit.{ℕ, ◌<◌, ◌+◌, ◌-◌, ◌*◌, suc, ◌
 use Rattle.prelude.proofs.Kit.{true, Bool, false, not, cond, ⊎_elim, ◌≡◌, sym, ◌∙◌, lt-ltb, le-ltb, ◌≤◌, one-mul, lit<}
 use Rattle.prelude.proofs.Kit.{refl, ap, subst, T, T_not, not_T, eqb, ltb, eqb→eq, ltb→lt, lt→ltb, and_i, and_r, and_l, le_of_suc-le-suc, not-suc-le-zero}
 use Prim.Native.Nat.{min, suc-le-suc}
-use native.Mathlib.Nat.{zero-div, pow-suc}
-use mathlib.Core.Bool.{beq}
+use native.Mathlib.Nat.{zero-div}
 use lib.Arith.{lt-one}
 use lib.Pow.{shr_lt, shl_exact}
-use lib.Bits.{bit_and, and_step, and_shr}
+use lib.Bits.{bit_and, and_le_r}
+use Rattle.std.proofs.Common.{w32}
+use Rattle.std.specs.Int.{bit_not}
+use Rattle.std.proofs.lemmas.Nat.Bits.{bit_at_and, bit_at_not, bit_at-zero, bit_at-trailing_zeros}
+use Rattle.std.proofs.lemmas.Bool.{cases_lt, agree_below, agree_below_at}
 use lib.Count.{count_trailing_zeros}
 use Rattle.prelude.proofs.Bits.{half_bit}
 use Rattle.prelude.proofs.Choices.{either, is_true, is_false}
 use Rattle.labels.specs.Membership.{Membership, endpoints, all_below, is_missing, is_lowest_missing, lowest_missing, missing_one, subset}
 use Rattle.labels.specs.Sets.{holds, within, missing, empty, all, only, word_from, word_of}
-use Rattle.labels.proofs.Below.{all_at, same}
-use Rattle.labels.proofs.Membership.{Bounded, subset_holds, holds_subset, told, one_missing, one_subset}
+use Rattle.labels.proofs.Below.{all_at, all_of, same}
+use Rattle.labels.proofs.Membership.{Bounded, subset_holds, holds_subset, none_lowest, lowest_is, one_missing, one_subset}
 
 -- what a set holds is an endpoint
 pub holds_below : (s : ℕ) → Bounded (holds s)
@@ -40,24 +43,12 @@ unheld_bit t a l n = not_one (t / 2 ^ a % 2) (omega arith) (λ e. T_not (holds t
 
 -- ---- s & !t is what is left over: its bits are the endpoints of s that are missing in t
 
--- the bits of !t are those that t lacks
-flipped : (n t a : ℕ) → t < 2 ^ n → a < n → (2 ^ n - 1 - t) / 2 ^ a % 2 ≡ 1 - t / 2 ^ a % 2
-flipped zero t a l k = absurd (not-suc-le-zero k)
-flipped (suc n) t zero l k = rw (div-one, div-one) (omega (arith, pow-suc 2 n, l))
-flipped (suc n) t (suc a) l k =
-    let half : (2 ^ suc n - 1 - t) / 2 ≡ 2 ^ n - 1 - t / 2 = omega (arith, pow-suc 2 n, l) in
-    sym (half_bit (2 ^ suc n - 1 - t) a) ∙ ap (λ (x : ℕ). x / 2 ^ a % 2) half
-    ∙ flipped n (t / 2) a (shr_lt n 1 (rw add-one l)) (le_of_suc-le-suc k) ∙ ap (λ (x : ℕ). 1 - x) (half_bit t a)
-
 abbrev left_over : ℕ → ℕ → ℕ
-left_over s t = bit_and s (2 ^ 32 - 1 - t)
+left_over s t = bit_and s (bit_not w32 t)
 
+-- the bits of !t are those that t lacks
 left_bit : (s t a : ℕ) → t < 2 ^ 32 → a < endpoints → left_over s t / 2 ^ a % 2 ≡ min (s / 2 ^ a % 2) (1 - t / 2 ^ a % 2)
-left_bit s t a l k =
-    let x = s / 2 ^ a in
-    let y = (2 ^ 32 - 1 - t) / 2 ^ a in
-    let low : bit_and x y % 2 ≡ min (x % 2) (y % 2) = omega (arith, and_step x y) in
-    rw (and_shr s (2 ^ 32 - 1 - t) a) (low ∙ ap (min (x % 2)) (flipped 32 t a l k))
+left_bit s t a l k = bit_at_and s (bit_not w32 t) a ∙ ap (min (s / 2 ^ a % 2)) (bit_at_not w32 t a l k)
 
 left_missing : (s t a : ℕ) → t < 2 ^ 32 → a < endpoints → T (is_missing (holds s) (holds t) a) → left_over s t / 2 ^ a % 2 ≡ 1
 left_missing s t a l k m =
@@ -69,33 +60,27 @@ left_not s t a l k n =
     (λ h. left_bit s t a l k ∙ rw (unheld_bit s a k (not_T (holds s a) (λ m. T_not (is_missing (holds s) (holds t) a) n (and_i (holds s a) (not (holds t a)) m h)))) (omega arith))
     (either (holds t a))
 
--- ---- the zeros below the lowest bit of a word
-
-zeros_below : (n x a : ℕ) → a < n → x / 2 ^ a % 2 ≡ 1 → ((b : ℕ) → b < a → x / 2 ^ b % 2 ≡ 0) → count_trailing_zeros n x ≡ a
-unfolding count_trailing_zeros
-zeros_below zero x a l e f = absurd (not-suc-le-zero l)
-zeros_below (suc n) x zero l e f = rw (rw div-one at e)
-zeros_below (suc n) x (suc a) l e f =
-    rw (rw div-one at (f zero (zero-lt-suc a)))
-    (ap suc (zeros_below n (x / 2) a (le_of_suc-le-suc l) (half_bit x a ∙ e) (λ b k. half_bit x b ∙ f (suc b) (suc-le-suc k))))
-
-zeros_all : (n x : ℕ) → ((b : ℕ) → b < n → x / 2 ^ b % 2 ≡ 0) → count_trailing_zeros n x ≡ n
-unfolding count_trailing_zeros
-zeros_all zero x f = refl
-zeros_all (suc n) x f = rw (rw div-one at (f zero (zero-lt-suc n))) (ap suc (zeros_all n (x / 2) (λ b k. half_bit x b ∙ f (suc b) (suc-le-suc k))))
-
--- the question of the code
+-- the question of the code: the zeros below the lowest bit of what is left over
 pub zeros_missing : (s t : ℕ) → t < 2 ^ 32 → count_trailing_zeros 32 (left_over s t) ≡ missing s t
-unfolding is_lowest_missing
-zeros_missing s t l =
-    ⊎_elim (λ none. zeros_all 32 (left_over s t) (λ b k. left_not s t b l k (within b (subset_holds (holds s) (holds t) none.0 b k))) ∙ sym none.1)
-    (λ one.
-    zeros_below 32 (left_over s t) (missing s t) one.0 (left_missing s t (missing s t) l one.0 (and_l (is_missing (holds s) (holds t) (missing s t)) _ one.1))
-    (λ b k. left_not s t b l (omega (arith, k, one.0)) (all_at (missing s t) (λ b. not (is_missing (holds s) (holds t) b)) (and_r (is_missing (holds s) (holds t) (missing s t)) _ one.1) b k)))
-    (told (holds s) (holds t))
+unfolding is_lowest_missing count_trailing_zeros
+zeros_missing s t l = ⊎_elim found none (cases_lt 0 (left_over s t))
   where
-    within : (b : ℕ) → (T (holds s b) → T (holds t b)) → T (not (is_missing (holds s) (holds t) b))
-    within b f = not_T (is_missing (holds s) (holds t) b) (λ m. T_not (holds t b) (and_r (holds s b) (not (holds t b)) m) (f (and_l (holds s b) (not (holds t b)) m)))
+    absent : (a : ℕ) → a < endpoints → left_over s t / 2 ^ a % 2 ≡ 0 → T (not (is_missing (holds s) (holds t) a))
+    absent a k e = not_T (is_missing (holds s) (holds t) a) (λ m. omega (arith, e, left_missing s t a l k m))
+
+    present : (a : ℕ) → a < endpoints → left_over s t / 2 ^ a % 2 ≡ 1 → T (is_missing (holds s) (holds t) a)
+    present a k e = ⊎_elim (λ m. m) (λ n. absurd (omega (arith, e, left_not s t a l k n))) (either (is_missing (holds s) (holds t) a))
+
+    none : left_over s t ≤ 0 → count_trailing_zeros 32 (left_over s t) ≡ missing s t
+    none h =
+        let empty : left_over s t ≡ 0 = omega (arith, h) in
+        rw empty refl ∙ none_lowest (holds s) (holds t) (λ a k. absent a k (rw empty (bit_at-zero a)))
+
+    found : 0 < left_over s t → count_trailing_zeros 32 (left_over s t) ≡ missing s t
+    found some =
+        let at = bit_at-trailing_zeros w32 (left_over s t) some (omega (arith, and_le_r s (bit_not w32 t))) in
+        let a = count_trailing_zeros 32 (left_over s t) in
+        sym (lowest_is (holds s) (holds t) a at.0 (and_i (is_missing (holds s) (holds t) a) _ (present a at.0 at.1) (all_of a (λ b. not (is_missing (holds s) (holds t) b)) (λ b k. absent b (omega (arith, k, at.0)) (at.2 b k)))))
 
 pub empty_word : empty ≡ 0
 unfolding empty
@@ -126,24 +111,16 @@ within_none s l =
         omega (arith, rest, low)
 
 -- a singleton holds its endpoint and no other: one computed test of all 32 by 32
-pub beq_eq : (x y : Bool) → T (beq x y) → x ≡ y
-beq_eq true true t = refl
-beq_eq true false t = absurd t
-beq_eq false true t = absurd t
-beq_eq false false t = refl
+right : ℕ → Bool
+right a = agree_below (holds (only a)) (eqb a) endpoints
 
-right : ℕ → ℕ → Bool
-right a b = beq (holds (only a) b) (eqb a b)
-
-computed : T (all_below endpoints (λ a. all_below endpoints (right a)))
+computed : T (all_below endpoints right)
 unfolding right all_below holds only
 computed = tt
 
 pub only_holds : (a b : ℕ) → a < endpoints → b < endpoints → holds (only a) b ≡ eqb a b
 unfolding right
-only_holds a b l k =
-    beq_eq (holds (only a) b) (eqb a b)
-    (all_at endpoints (right a) (all_at endpoints (λ a. all_below endpoints (right a)) computed a l) b k)
+only_holds a b l k = agree_below_at (holds (only a)) (eqb a) endpoints b (is_true _ (all_at endpoints right computed a l)) k
 
 -- the singleton that code shifts a one for, and the one of a number above 31
 pub only_shifted : (a : ℕ) → a < endpoints → 1 * 2 ^ a % 2 ^ 32 ≡ only a

@@ -1,5 +1,5 @@
 -- The rows of a policy: a test of the address settles whether one is well formed, and whether it is empty.
-use Rattle.prelude.proofs.Kit.{ℕ, ◌≤◌, ◌<◌, ◌+◌, ◌^◌, arith, true, ◌&&◌, false, not, and_assoc, List, ⊎_elim, ◌≡◌, sym, ◌∙◌, subst, ne_eqb}
+use Rattle.prelude.proofs.Kit.{ℕ, ◌≤◌, ◌<◌, ◌+◌, ◌^◌, arith, true, ◌&&◌, Bool, false, not, and_assoc, List, ⊎_elim, ◌≡◌, sym, ◌∙◌, subst, ne_eqb}
 use Rattle.prelude.proofs.Kit.{le-ltb, lt-ltb, eq-eqb, T, eqb, ltb, ltb→lt, T_not, not_T, length, and_l}
 use mathlib.Core.Bool.{or-false}
 use lib.Dec.{leb, leb→le, nleb→lt}
@@ -83,11 +83,23 @@ module _ (p : List ℕ) where
   unfolding well_formed
   formed_length ne = rw (ne_eqb (length p) policy_words ne)
 
-  pub formed_parts : length p ≡ policy_words
+  formed_parts : length p ≡ policy_words
       → (all_below url_rows (row_well_formed p) && all_below connections (connection_well_formed p)) && (ltb (https_hosts p) (2 ^ hosts) && all_below url_rows (partner_well_formed p))
       ≡ well_formed p
   unfolding well_formed
   formed_parts e = simp and_assoc (rw (eq-eqb (length p) policy_words e))
 
-  pub formed_given : length p ≡ policy_words → well_formed p ≡ true → WellFormed p
+  formed_given : length p ≡ policy_words → well_formed p ≡ true → WellFormed p
   formed_given e t = record { long = e; formed = subst T (sym t) tt }
+
+  -- the test of the code, which asks of hosts and partners where rows and connections have passed
+  module _ (long : length p ≡ policy_words) (rows joined : Bool) (r : rows ≡ all_below url_rows (row_well_formed p)) (j : joined ≡ all_below connections (connection_well_formed p)) where
+    first : (b : Bool) → rows && joined ≡ b → b && (ltb (https_hosts p) (2 ^ hosts) && all_below url_rows (partner_well_formed p)) ≡ well_formed p
+    first b e = rw (← e, r, j) (formed_parts long)
+
+    pub formed_last : (last : Bool) → rows && joined ≡ true → last ≡ ltb (https_hosts p) (2 ^ hosts) && all_below url_rows (partner_well_formed p)
+        → (last ≡ well_formed p) × (last ≡ true → WellFormed p)
+    formed_last last e l = let same : last ≡ well_formed p = l ∙ first true e in (same, λ t. formed_given long (sym same ∙ t))
+
+    pub formed_first : rows && joined ≡ false → (rows && joined ≡ well_formed p) × (rows && joined ≡ true → WellFormed p)
+    formed_first e = let same : rows && joined ≡ well_formed p = e ∙ first false e in (same, λ t. formed_given long (sym same ∙ t))

@@ -74,30 +74,19 @@ fn group_well_formed<S: EndpointSet>(policy: &[u32; WORDS], first: usize) -> boo
     requires { first + 8 ≤ url_rows }
     ensures { result ≡ all_below 8 (λ i. row_well_formed policy.now (first + i)) }
 {
-    if address_word(policy, first) == NO_ADDRESS {
-        if group_empty(policy, first) {
-            return true;
-        }
+    if address_word(policy, first) == NO_ADDRESS && group_empty(policy, first) {
+        return true;
     }
-    for i in 0..GROUP {
-        if !row_well_formed::<S>(policy, first + i) {
-            return false;
-        }
-    }
-    true
+    (first..first + GROUP).all(|url| row_well_formed::<S>(policy, url))
 }
 
 fn rows_well_formed<S: EndpointSet>(policy: &[u32; WORDS]) -> bool
     ensures { result ≡ all_below url_rows (row_well_formed policy.now) }
 {
-    for group in 0..URL_ROWS / GROUP {
-        if !group_well_formed::<S>(policy, GROUP * group) {
-            return false;
-        }
-    }
-    true
+    (0..URL_ROWS / GROUP).all(|group| group_well_formed::<S>(policy, GROUP * group))
 }
 
+// No exit, so that the compiler asks several connections at once: with `all` here and below a policy with few URLs takes half as long again.
 fn connections_well_formed<S: EndpointSet>(policy: &[u32; WORDS]) -> bool
     ensures { result ≡ all_below connections (connection_well_formed policy.now) }
 {
@@ -109,7 +98,7 @@ fn connections_well_formed<S: EndpointSet>(policy: &[u32; WORDS]) -> bool
     passed
 }
 
-// Where no host is listed: whether no URL has a partner.
+// Where no host is listed: whether no URL has a partner. No exit, as above.
 fn no_partners(policy: &[u32; WORDS]) -> bool
     requires { https_hosts policy.now ≡ 0 }
     ensures { result ≡ all_below url_rows (partner_well_formed policy.now) }
@@ -160,12 +149,7 @@ fn partner_well_formed<S: EndpointSet>(policy: &[u32; WORDS], url: usize) -> boo
 fn partners_well_formed<S: EndpointSet>(policy: &[u32; WORDS]) -> bool
     ensures { result ≡ all_below url_rows (partner_well_formed policy.now) }
 {
-    for url in 0..URL_ROWS {
-        if !partner_well_formed::<S>(policy, url) {
-            return false;
-        }
-    }
-    true
+    (0..URL_ROWS).all(|url| partner_well_formed::<S>(policy, url))
 }
 
 // Where no host is listed, as in policy P, the partners are asked without looking at the rows.
@@ -183,7 +167,7 @@ fn https_well_formed<S: EndpointSet>(policy: &[u32; WORDS]) -> bool
 pub fn well_formed<S: EndpointSet>(policy: &[u32; WORDS]) -> bool
     ensures { (result ≡ well_formed policy.now) × (result ≡ true → WellFormed policy.now) }
 {
-    rows_well_formed::<S>(policy)
-        & connections_well_formed::<S>(policy)
-        & https_well_formed::<S>(policy)
+    // Hosts and partners are asked last, apart from the others: one chain of `&` over all three makes a policy with few URLs a tenth slower.
+    (rows_well_formed::<S>(policy) & connections_well_formed::<S>(policy))
+        && https_well_formed::<S>(policy)
 }
