@@ -15,3 +15,4 @@ pub mod RoundTrips
 pub mod Carriable
 pub mod Runs
 pub mod ReadRuns
+pub mod Numbers

@@ -22,8 +22,8 @@ pub const LONGEST_INPUT: usize = FRONT + ALL_COOKIES + 4;
 pub const LONGEST_REQUEST: usize = FRONT + ALL_COOKIES + 1;
 
 impl Direction {
-    // Whether the direction has this map. Each is compared, where a `match` on the map reads better, since the compiler then knows which bits a
-    // map has (tried: a tally of the shortest requests takes longer with a `match`).
+    // Whether the direction has this map. Each is compared, where `matches!` with all of them reads better (tried; the proof did not close: after an
+    // arm of several numbers nothing is known of the others).
     pub fn has_map(self, map: u8) -> bool
         ensures { result ≡ is_one_of map (maps self) }
     {
@@ -71,7 +71,8 @@ pub fn no_key_set(map: u8, keys: u8) -> bool
 }
 
 // What is left over of a value that is not carried: the value itself; 0 where it is carried. So it is 0 just where the
-// value fits the bytes that the layout gives it: none, or as many as its type needs.
+// value fits the bytes that the layout gives it: none, or as many as its type needs. Numbers, so that one comparison ends all of them (tried: with
+// Booleans and `&` encoding a record without cookies takes a quarter longer, with `all` half as long again).
 fn stray(carried: bool, value: u32) -> u32
     ensures { (w : ℕ) → value < 256 ^ w → eqb result 0 ≡ ltb value (256 ^ (w * on carried)) }
 {
@@ -89,7 +90,7 @@ fn stray_cookies(keys: u8, values: [u32; 8]) -> u32
     all
 }
 
-// Whether the fields that are not carried are all 0; URL and connection always are carried. One comparison ends it.
+// Whether the fields that are not carried are all 0; URL and connection always are carried.
 fn fields_fit(fields: Record) -> bool
     requires { (bit fields.map 0 ≡ 1) × (bit fields.map 1 ≡ 1) }
     ensures { result ≡ fit_widths (widths fields.map fields.keys) (values fields) }

@@ -2,6 +2,8 @@
 ghost use Rattle.std.specs.Prelude.{◌≡◌};
 ghost use Rattle.records.specs.Results.{decode_number, encode_number};
 
+use super::{CUT_OR_TOO_LONG, KEY_MAP_EMPTY, KIND_UNKNOWN, NO_ROOM, NOT_CARRIABLE};
+
 // Why bytes are no record.
 #[derive(Clone, Copy, Debug, PartialEq, Eq)]
 pub enum DecodeError {
@@ -18,9 +20,9 @@ impl DecodeError {
         ensures { result ≡ decode_number self }
     {
         match self {
-            DecodeError::UnknownKind => 10,
-            DecodeError::EmptyKeyMap => 12,
-            DecodeError::WrongLength => 11,
+            DecodeError::UnknownKind => KIND_UNKNOWN,
+            DecodeError::EmptyKeyMap => KEY_MAP_EMPTY,
+            DecodeError::WrongLength => CUT_OR_TOO_LONG,
         }
     }
 }
@@ -39,8 +41,8 @@ impl EncodeError {
         ensures { result ≡ encode_number self }
     {
         match self {
-            EncodeError::NoRoom => 1,
-            EncodeError::NotCarriable => 5,
+            EncodeError::NoRoom => NO_ROOM,
+            EncodeError::NotCarriable => NOT_CARRIABLE,
         }
     }
 }

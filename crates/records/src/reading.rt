@@ -97,13 +97,14 @@ impl<'a> Reader<'a> {
     pub fn record(&mut self, direction: Direction) -> Result<Record, DecodeError>
         ensures { reads result self.new.rest.now ≡ record_at direction self.old.rest.now }
     {
-        match self.rest {
-            [map, rest @ ..] if direction.has_map(*map) => {
-                self.rest = rest;
-                self.fields(*map)
-            }
-            _ => Err(DecodeError::UnknownKind),
+        let [map, rest @ ..] = self.rest else {
+            return Err(DecodeError::UnknownKind); // there is no map
+        };
+        if !direction.has_map(*map) {
+            return Err(DecodeError::UnknownKind);
         }
+        self.rest = rest;
+        self.fields(*map)
     }
 }
 

@@ -2,7 +2,7 @@
 use Rattle.prelude.proofs.Kit.{ℕ, List, [], ◌++◌, ◌≡◌, ap, drop}
 use Rattle.prelude.specs.Refusals.{accepted}
 use Rattle.records.specs.declared.Direction.TheVariants.{Request}
-use Rattle.records.specs.declared.First.{First}
+use Rattle.records.specs.Answers.{First}
 use Rattle.records.specs.Codec.{decoded_first, Run}
 use Rattle.records.proofs.ReadRuns.{run_end, run_none, run_more}
 use Rattle.transcript.specs.Lines.{request_line, request_lines, sent_lines}

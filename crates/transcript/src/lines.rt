@@ -57,15 +57,11 @@ fn write_request_lines(text: &mut [u8], start: usize, sent: &[u8]) -> usize
     ensures { Wrote text.old start (sent_lines sent.now) text.new result }
 {
     let mut at = start;
-    let mut from = 0;
-    while from < sent.len() {
-        let request = records::decode_first(Direction::Request, &sent[from..]);
-        if request.number != records::ACCEPTED {
-            return at;
-        }
+    let mut left = sent;
+    while let Ok(request) = records::decode_first(Direction::Request, left) {
         let fields = request.fields;
         at = write_request_line(text, at, fields.url, fields.connection, fields.keys);
-        from = from + request.length;
+        left = &left[request.length..];
     }
     at
 }
