@@ -1,7 +1,7 @@
 -- Where a connection stops on a journey, by the first place that it does not take, and what is answered by what is refused. So the connection that is
 -- told is the lowest that does not stop.
-use Rattle.prelude.proofs.Kit.{ℕ, ◌≤◌, ◌<◌, arith, true, Bool, false, true≢false, not, List, ◌≡◌, sym, ◌∙◌, refl, ap, subst, T, T_not, not_T, length, lt-ltb, le-ltb}
-use Rattle.std.specs.Prelude.{Option, Some, None, unwrap_or, IfSome, is_some, cond, eqb, ltb, [], ◌∷◌}
+use Rattle.prelude.proofs.Kit.{ℕ, ◌≤◌, ◌<◌, arith, true, Bool, false, not, List, ◌≡◌, sym, ◌∙◌, refl, ap, subst, T, T_not, not_T, length, lt-ltb, le-ltb}
+use Rattle.std.specs.Prelude.{cond, eqb, ltb, [], ◌∷◌}
 use Rattle.prelude.specs.Choice.{branch}
 use Rattle.prelude.specs.Refusals.{accepted, refuse, first_of}
 use Rattle.prelude.proofs.Choices.{is_true, is_false}
@@ -38,13 +38,6 @@ module _ (p urls : List ℕ) (c : ℕ) where
       go : (b : Bool) → carries p urls c ≡ b → carries p urls c ≡ true
       go true e = e
       go false e = absurd (omega (arith, l, fails_where p urls c (subst (λ (b : Bool). T (not b)) (sym e) tt)))
-
-  -- whether it carries the journey, as code tells it by the place
-  pub carried : (r : Option ℕ) (b : Bool) → is_some r ≡ not b → unwrap_or r (length urls) ≡ fails_at p urls c → IfSome r (λ i. i < length urls) → b ≡ carries p urls c
-  carried None true q e l = sym (carries_where (omega (arith, e)))
-  carried None false q e l = absurd (true≢false (sym q))
-  carried (Some i) true q e l = absurd (true≢false q)
-  carried (Some i) false q e l = sym (carries_not_where (omega (arith, e, l)))
 
   -- the place where it fails is not taken
   pub taken_nowhere : (i : ℕ) → i ≡ fails_at p urls c → i < length urls → takes p urls c i ≡ true → ⊥

@@ -1,7 +1,7 @@
 // The search for the lowest connection that carries a journey, and for the first URL that a connection does not take.
 ghost use Rattle.std.specs.Prelude.{◌≡◌, ◌<◌, length, IfSome, unwrap_or};
 ghost use Rattle.machine.specs.Policy.{connections};
-ghost use Rattle.journeys.specs.Journey.{carries, carrier, fails_at};
+ghost use Rattle.journeys.specs.Journey.{carrier, fails_at};
 
 use super::legs::Journey;
 use labels::EndpointSet;
@@ -17,19 +17,19 @@ impl<'a, S: EndpointSet> Journey<'a, S> {
         (0..self.urls.len()).find(|place| self.judge(connection, *place).is_err())
     }
 
-    // Whether a connection takes each URL of the journey.
-    fn carries(self, connection: usize) -> bool
-        requires { connection < connections }
-        ensures { result ≡ carries self.entry.policy.words.now self.entry.urls.now connection }
-    {
-        self.fails_at(connection).is_none()
-    }
-
-    // The lowest connection that does.
+    // The lowest connection that takes each URL. At the first URL that one does not take, the next one is tried.
     pub fn lowest_carrier(self) -> Option<usize>
         ensures lowest { unwrap_or result connections ≡ carrier self.entry.policy.words.now self.entry.urls.now }
         ensures one { IfSome result (λ c. c < connections) }
     {
-        (0..CONNECTIONS).find(|connection| self.carries(*connection))
+        'search: for connection in 0..CONNECTIONS {
+            for place in 0..self.urls.len() {
+                if self.judge(connection, place).is_err() {
+                    continue 'search;
+                }
+            }
+            return Some(connection);
+        }
+        None
     }
 }
