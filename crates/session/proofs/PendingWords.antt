@@ -1,12 +1,10 @@
 -- What a word packs: where it tells of something pending, the fields are the word's, and they pack it again.
-use Rattle.prelude.proofs.Kit.{ℕ, ◌<◌, ◌≡◌, refl, ne_eqb, sym, ◌∙◌}
+use Rattle.prelude.proofs.Kit.{ℕ, ◌≡◌, refl, ne_eqb, sym}
 use Rattle.std.proofs.Common.{inl, inr}
 use Rattle.std.proofs.lemmas.Bool.{cases_eq}
 use Rattle.std.specs.Prelude.{Option, Some, None, option_map}
-use Rattle.machine.specs.Session.{document_kind, script_kind, picture_kind, packed, kind_of, origin_of, handler_of, url_of}
-use Rattle.machine.proofs.ConnectionWords.{kind_packed, origin_packed, handler_packed, url_packed}
+use Rattle.machine.specs.Session.{document_kind, script_kind, picture_kind, kind_of, origin_of, handler_of, url_of}
 use Rattle.session.specs.declared.kinds.Kind.{Kind}
-use Rattle.session.specs.declared.kinds.Kind.TheVariants.{Document, Script, Picture}
 use Rattle.session.specs.declared.pending.Pending.{Pending}
 use Rattle.session.specs.Kinds.{number_of, kind_numbered}
 use Rattle.session.specs.Pending.{word_of, pending_in}
