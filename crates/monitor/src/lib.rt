@@ -12,6 +12,7 @@ mod refusal;
 mod refusals;
 
 use policy::NONE_MISSING;
+use records::ACCEPTED;
 pub use refusals::OUTPUT_ROOM;
 use refusals::feed;
 
@@ -42,7 +43,7 @@ pub extern "C" fn monitor_feed(
 {
     match feed(policy, scripts, state, bytes, out) {
         Ok(done) => Answer {
-            number: 0,
+            number: ACCEPTED,
             bytes: done.bytes as u32,
             steps: done.steps,
             missing: NONE_MISSING,
