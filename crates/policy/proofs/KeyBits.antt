@@ -1,11 +1,12 @@
 -- A map of keys as a word: its bits are the keys that pass, a key is added by "or" or, above the others, by a sum, and two maps share keys by "and".
 use Rattle.prelude.proofs.Kit.{ℕ, ◌≤◌, ◌<◌, ◌+◌, suc, ◌^◌, zero, ◌*◌, ◌%◌, ◌/◌, zero-lt-suc, mod-eq_of_lt, div-one, one-mul, add-one, arith}
-use Rattle.prelude.proofs.Kit.{true, ◌&&◌, Bool, false, ◌||◌, ◌≡◌, sym, ◌∙◌, refl, ap, bit_or, and_le_r, eqb, lit<, eqb·suc_zero}
+use Rattle.prelude.proofs.Kit.{true, ◌&&◌, Bool, false, ◌||◌, ◌≡◌, sym, ◌∙◌, refl, ap, subst, bit_or, and_le_r, ⊎_elim, eq-eqb, ne_eqb, eqb, lit<}
 use Prim.Native.Nat.{min, max, suc-le-suc}
 use native.Mathlib.Nat.{lt_trans, lt_of_le_of_lt, lt_of_lt_of_le, pow-suc, mod-one, div-eq_of_lt}
-use lib.Dec.{eqb-zero-suc, eqb-suc-suc}
 use borrow.Author.Tests.{eqb-true, eqb-false}
-use lib.Bits.{bit_and, and_step, and_shr, or_step, or_shr}
+use lib.Bits.{bit_and}
+use Rattle.std.proofs.lemmas.Nat.Bits.{bit_at_and, bit_at_or, bit_at-pow_same, bit_at-pow_other}
+use Rattle.std.proofs.lemmas.Bool.{cases_eq}
 use lib.Pow.{pow_pos, mod-pow-add, pow-lt, pow_mono}
 use mir.Val.{bool_byte}
 use Rattle.prelude.specs.Choice.{branch}
@@ -49,15 +50,7 @@ none_mapped test f = of_bits host_keys 0 test (λ j _. none_has j ∙ sym (f j))
 -- the only bit of a power of two
 power_bit : (k j : ℕ) → 2 ^ k / 2 ^ j % 2 ≡ branch (eqb j k) 1 0
 unfolding branch
-power_bit zero zero = refl
-power_bit zero (suc j) = rw (eqb·suc_zero j) (ap (λ (x : ℕ). x % 2) (div-eq_of_lt (pow-lt {i = 0} {j = suc j} (zero-lt-suc j))))
-power_bit (suc k) zero = rw (eqb-zero-suc k, div-one (2 ^ suc k), pow-suc 2 k) (omega arith)
-power_bit (suc k) (suc j) =
-    sym (half_bit (2 ^ suc k) j) ∙ ap (λ (x : ℕ). x / 2 ^ j % 2) (halved (2 ^ k) (pow-suc 2 k)) ∙ power_bit k j
-    ∙ ap (λ (b : Bool). branch b 1 0) (sym (eqb-suc-suc j k))
-  where
-    halved : {y : ℕ} (x : ℕ) → y ≡ x * 2 → y / 2 ≡ x
-    halved x e = omega arith
+power_bit k j = ⊎_elim (λ same. rw (eq-eqb j k same) (subst (λ (i : ℕ). 2 ^ k / 2 ^ i % 2 ≡ 1) (sym same) (bit_at-pow_same k))) (λ other. rw (ne_eqb j k other) (bit_at-pow_other k j other)) (cases_eq j k)
 
 -- one of two bits is 1
 either_bit : (b : Bool) (x : ℕ) → x < 2 → eqb (max x (branch b 1 0)) 1 ≡ b || eqb x 1
@@ -71,9 +64,7 @@ either_bit b (suc (suc x)) l = absurd (omega arith)
 or_bit : (x k j : ℕ) → has (bit_or x (2 ^ k)) j ≡ eqb j k || has x j
 unfolding has
 or_bit x k j =
-    let e : bit_or x (2 ^ k) / 2 ^ j % 2 ≡ max (x / 2 ^ j % 2) (2 ^ k / 2 ^ j % 2) =
-    ap (λ (y : ℕ). y % 2) (or_shr x (2 ^ k) j) ∙ omega (arith, or_step (x / 2 ^ j) (2 ^ k / 2 ^ j)) in
-    ap (λ (y : ℕ). eqb y 1) (e ∙ ap (max (x / 2 ^ j % 2)) (power_bit k j)) ∙ either_bit (eqb j k) (x / 2 ^ j % 2) (omega arith)
+    ap (λ (y : ℕ). eqb y 1) (bit_at_or x (2 ^ k) j ∙ ap (max (x / 2 ^ j % 2)) (power_bit k j)) ∙ either_bit (eqb j k) (x / 2 ^ j % 2) (omega arith)
 
 pub with_key : (x k : ℕ) → k < host_keys → bit_or x (1 * 2 ^ k % 4294967296) % 256 ≡ key_map (λ j. eqb j k || has x j)
 with_key x k l =
@@ -92,10 +83,7 @@ both_bits (suc (suc x)) y l k = absurd (omega arith)
 
 and_bit : (x y j : ℕ) → has (bit_and x y) j ≡ has x j && has y j
 unfolding has
-and_bit x y j =
-    let e : bit_and x y / 2 ^ j % 2 ≡ min (x / 2 ^ j % 2) (y / 2 ^ j % 2) =
-    ap (λ (z : ℕ). z % 2) (and_shr x y j) ∙ omega (arith, and_step (x / 2 ^ j) (y / 2 ^ j)) in
-    ap (λ (z : ℕ). eqb z 1) e ∙ both_bits (x / 2 ^ j % 2) (y / 2 ^ j % 2) (omega arith) (omega arith)
+and_bit x y j = ap (λ (z : ℕ). eqb z 1) (bit_at_and x y j) ∙ both_bits (x / 2 ^ j % 2) (y / 2 ^ j % 2) (omega arith) (omega arith)
 
 pub kept_keys : (x : ℕ) (test : ℕ → Bool) → bit_and x (key_map test) ≡ key_map (λ k. has x k && test k)
 kept_keys x test =

@@ -30,14 +30,14 @@ use words::{
     url_writers,
 };
 
-// The words of a policy that is well formed, lent, and the kind of sets that its questions are asked of.
+// The words of a well formed policy, lent, and the kind of sets that its questions are asked with.
 pub struct Policy<'a, S: EndpointSet> {
     words: &'a [u32; WORDS],
     sets: PhantomData<S>,
     pub ghost formed: { WellFormed words.now },
 }
 
-// By hand, since a derive does not go with a ghost field.
+// By hand, since no derive copies a generic struct with a ghost field.
 impl<'a, S: EndpointSet> Clone for Policy<'a, S> {
     fn clone(&self) -> Result<Self, AllocError> {
         Ok(*self)
@@ -46,6 +46,7 @@ impl<'a, S: EndpointSet> Clone for Policy<'a, S> {
 
 impl<'a, S: EndpointSet> Copy for Policy<'a, S> {}
 
+// Connections, URLs, hosts and keys stay numbers: a type for each would be made and opened again at every word that they index.
 impl<'a, S: EndpointSet> Policy<'a, S> {
     // None where 2 refuses the words.
     pub fn parse(words: &'a [u32]) -> Option<Self>

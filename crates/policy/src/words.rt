@@ -1,4 +1,4 @@
-// The words of a policy by name, of so many words. Each word that is a set becomes one here.
+// The words of a policy by name. Each word that is a set becomes one here, of the kind that is asked for.
 ghost use Rattle.std.specs.Prelude.{◌≡◌, ◌<◌, leb, ltb, not, eqb, is_some, unwrap_or};
 ghost use Rattle.labels.specs.Membership.{endpoints};
 ghost use Rattle.labels.specs.Addresses.{hosts};
