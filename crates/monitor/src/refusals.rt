@@ -7,7 +7,7 @@ ghost use Rattle.monitor.specs.Events.{told};
 ghost use Rattle.monitor.specs.Given.{Lent};
 
 use super::answers::{
-    ACCEPTED, Done, OUTPUT_SHORT, POLICY_BAD, SCRIPTS_BAD, STATE_UNSOUND, refused,
+    Done, OUTPUT_SHORT, POLICY_BAD, SCRIPTS_BAD, STATE_UNSOUND, refused,
 };
 use super::events::{Arrived, Delivery, arrive, load};
 use policy::check::well_formed;
@@ -91,10 +91,8 @@ pub fn feed(policy: &[u32], scripts: &[u8], state: &mut [u32], bytes: &[u8], out
     if !sound(policy, state) {
         return refused(STATE_UNSOUND);
     }
-    let read = records::decode(Direction::Input, bytes);
-    if read.number != ACCEPTED {
-        return refused(read.number);
+    match records::decode(Direction::Input, bytes) {
+        Ok(fields) => react(policy, scripts, state, fields, out),
+        Err(error) => refused(error.number()),
     }
-    let fields = read.fields;
-    react(policy, scripts, state, fields, out)
 }

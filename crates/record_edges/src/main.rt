@@ -5,13 +5,16 @@
 // say how they are written.
 #![tactic(auto)]
 
-ghost use Rattle.std.specs.Prelude.{◌<◌, ◌≤◌};
+ghost use Rattle.std.specs.Prelude.{◌≤◌};
 
-use records::{Direction, Record};
+use records::{DecodeError, Direction, Record};
 use std::io;
 
 // Room for standard input; what does not fit would be missing from the output.
 const TEXT_ROOM: usize = 16_384;
+
+// The most bytes that are read as a record.
+const MOST_BYTES: usize = 46;
 
 fn main(rt: HostRuntime) -> io::Result<()> {
     print(&rt, b"input\n")?;
@@ -33,8 +36,8 @@ fn print_number(rt: &HostRuntime, n: u32) -> io::Result<()> {
 
 // ---- every map at every length
 
-// How many of 256 records are accepted and written back, and how many are refused with each number.
-#[derive(Clone, Copy)]
+// How many of 256 records are accepted and written back, and how many are refused with each error.
+#[derive(Clone, Copy, PartialEq, Eq)]
 struct Counts {
     accepted: u32,
     kind: u32,
@@ -42,77 +45,53 @@ struct Counts {
     length: u32,
 }
 
-fn same(a: Counts, b: Counts) -> bool {
-    (a.accepted == b.accepted) & (a.kind == b.kind) & (a.keys == b.keys) & (a.length == b.length)
-}
-
-// What is counted nowhere: a record that is accepted and not written back at its length.
-const NOT_WRITTEN_BACK: u32 = 255;
-
-// The number with which the first `length` bytes are read.
-fn number_of(direction: Direction, bytes: &[u8], length: usize) -> u32 {
-    if bytes.len() < length {
-        return NOT_WRITTEN_BACK;
-    }
-    let read = records::decode(direction, &bytes[0..length]);
-    if read.number != 0 {
-        return read.number;
-    }
-    let fields = read.fields;
-    let mut out = [0u8; 46];
-    let back = records::encode(direction, fields, &mut out);
-    if back.length == length {
-        0
-    } else {
-        NOT_WRITTEN_BACK
+// Whether some bytes are read as a record, and this is written back at their length.
+fn written_back(direction: Direction, bytes: &[u8]) -> Result<bool, DecodeError> {
+    let fields = records::decode(direction, bytes)?;
+    let mut out = [0u8; MOST_BYTES];
+    match records::encode(direction, fields, &mut out) {
+        Ok(length) => Ok(length == bytes.len()),
+        Err(_) => Ok(false),
     }
 }
 
-fn is_number(direction: Direction, bytes: &[u8], length: usize, number: u32) -> u32
-    ensures { result ≤ 1 }
+// With how many of the 256 bytes where a key map would be each happens. A record that is read and not written back is counted nowhere.
+fn counts_of(direction: Direction, map: u8, length: usize) -> Counts
+    requires { length ≤ 46 }
 {
-    if number_of(direction, bytes, length) == number {
-        1
-    } else {
-        0
-    }
-}
-
-// With how many of the 256 bytes where a key map would be the number is this one.
-fn key_maps(direction: Direction, map: u8, length: usize, number: u32) -> u32 {
-    let mut bytes = [0x11; 46];
+    let mut bytes = [0x11; MOST_BYTES];
     bytes[0] = map;
-    let mut n = 0u32;
-    for keys in 0..256usize {
-        bytes[3] = (keys % 256) as u8;
-        n += is_number(direction, &bytes, length, number);
+    let mut counts = Counts {
+        accepted: 0,
+        kind: 0,
+        keys: 0,
+        length: 0,
+    };
+    for keys in 0..256u32 {
+        bytes[3] = keys as u8;
+        match written_back(direction, &bytes[..length]) {
+            Ok(true) => counts.accepted += 1,
+            Ok(false) => {}
+            Err(DecodeError::UnknownKind) => counts.kind += 1,
+            Err(DecodeError::EmptyKeyMap) => counts.keys += 1,
+            Err(DecodeError::WrongLength) => counts.length += 1,
+        }
     }
-    n
-}
-
-fn counts_of(direction: Direction, map: u8, length: usize) -> Counts {
-    Counts {
-        accepted: key_maps(direction, map, length, 0),
-        kind: key_maps(direction, map, length, 10),
-        keys: key_maps(direction, map, length, 12),
-        length: key_maps(direction, map, length, 11),
-    }
+    counts
 }
 
 // Shows the counts of a length where they are not those of the length before.
-fn row(rt: &HostRuntime, map: u8, length: usize, before: Counts, counts: Counts) -> io::Result<()>
-    requires { length < 46 }
-{
-    if !same(before, counts) {
-        print_number(rt, wide(map))?;
-        print_number(rt, length as u32)?;
-        print_number(rt, counts.accepted)?;
-        print_number(rt, counts.kind)?;
-        print_number(rt, counts.keys)?;
-        print_number(rt, counts.length)?;
-        print(rt, b"\n")?;
+fn row(rt: &HostRuntime, map: u8, length: usize, before: Counts, counts: Counts) -> io::Result<()> {
+    if before == counts {
+        return Ok(());
     }
-    Ok(())
+    print_number(rt, u32::from(map))?;
+    print!(rt; " {length}")?;
+    print_number(rt, counts.accepted)?;
+    print_number(rt, counts.kind)?;
+    print_number(rt, counts.keys)?;
+    print_number(rt, counts.length)?;
+    print(rt, b"\n")
 }
 
 fn with_map(rt: &HostRuntime, direction: Direction, map: u8) -> io::Result<()> {
@@ -122,7 +101,7 @@ fn with_map(rt: &HostRuntime, direction: Direction, map: u8) -> io::Result<()> {
         keys: 0,
         length: 0,
     };
-    for length in 0..46usize {
+    for length in 0..MOST_BYTES {
         let counts = counts_of(direction, map, length);
         row(rt, map, length, before, counts)?;
         before = counts;
@@ -131,23 +110,20 @@ fn with_map(rt: &HostRuntime, direction: Direction, map: u8) -> io::Result<()> {
 }
 
 fn sweep(rt: &HostRuntime, direction: Direction) -> io::Result<()> {
-    for map in 0..256usize {
-        with_map(rt, direction, (map % 256) as u8)?;
+    for map in 0..256u32 {
+        with_map(rt, direction, map as u8)?;
     }
     Ok(())
 }
 
 // ---- the records of standard input
 
+// What follows the last newline is no line.
 fn lines(rt: &HostRuntime, text: &[u8]) -> io::Result<()> {
-    let mut start = 0;
-    let mut at = 0;
-    while at < text.len() {
-        if text[at] == b'\n' {
-            line(rt, &text[start..at])?;
-            start = at + 1;
-        }
-        at += 1;
+    let mut rest = text;
+    while let Some(end) = rest.iter().position(|byte| *byte == b'\n') {
+        line(rt, &rest[..end])?;
+        rest = &rest[end + 1..];
     }
     Ok(())
 }
@@ -166,65 +142,80 @@ fn answer(rt: &HostRuntime, kind: u8, bytes: &[u8], n: usize) -> io::Result<()> 
         b'r' => decoded(rt, Direction::Request, bytes, n),
         b'I' => tried(rt, Direction::Input, bytes),
         b'R' => tried(rt, Direction::Request, bytes),
-        _ => print(rt, b""),
+        _ => Ok(()),
     }
 }
 
 fn at(bytes: &[u8], i: usize) -> u8 {
-    if i < bytes.len() { bytes[i] } else { 0 }
+    bytes.get(i).copied().unwrap_or(0)
 }
 
 fn nibble(c: u8) -> u8
-    ensures { result < 16 }
+    ensures { result ≤ 15 }
 {
     if c < b'a' { c % 16 } else { (c % 16 + 9) % 16 }
 }
 
 // The bytes of a line: a letter, and then a space and two digits for each.
-fn from_hex(text: &[u8]) -> [u8; 46] {
-    let mut bytes = [0u8; 46];
-    for i in 0..46usize {
-        bytes[i] = nibble(at(text, 3 * i + 2)) * 16 + nibble(at(text, 3 * i + 3));
+fn from_hex(text: &[u8]) -> [u8; MOST_BYTES] {
+    let mut bytes = [0u8; MOST_BYTES];
+    for (i, byte) in bytes.iter_mut().enumerate() {
+        *byte = nibble(at(text, 3 * i + 2)) * 16 + nibble(at(text, 3 * i + 3));
     }
     bytes
 }
+
+// What is shown where nothing is read.
+const BLANK: Record = Record {
+    map: 0,
+    url: 0,
+    connection: 0,
+    keys: 0,
+    cookies: [0; 8],
+    script: 0,
+    value: 0,
+    target: 0,
+};
 
 // Reads the first n of the bytes, shows the answer, and where they are accepted writes them back.
 fn decoded(rt: &HostRuntime, d: Direction, bytes: &[u8], n: usize) -> io::Result<()> {
     if bytes.len() < n {
         return Ok(());
     }
-    let answer = records::decode(d, &bytes[0..n]);
-    let fields = answer.fields;
-    print(rt, b" :")?;
-    print_number(rt, answer.number)?;
-    print(rt, b" :")?;
-    print_fields(rt, fields)?;
-    if answer.number == 0 {
-        encoded(rt, d, fields, 42)?;
+    match records::decode(d, &bytes[..n]) {
+        Ok(fields) => {
+            print_read(rt, records::ACCEPTED, fields)?;
+            encoded(rt, d, fields, 42)
+        }
+        Err(error) => print_read(rt, error.number(), BLANK),
     }
-    Ok(())
+}
+
+fn print_read(rt: &HostRuntime, number: u32, fields: Record) -> io::Result<()> {
+    print(rt, b" :")?;
+    print_number(rt, number)?;
+    print(rt, b" :")?;
+    print_fields(rt, fields)
 }
 
 // The map, URL, connection, key map, cookie values, script, value and target.
 fn print_fields(rt: &HostRuntime, r: Record) -> io::Result<()> {
-    let cookies = r.cookies;
-    print_number(rt, r.map as u32)?;
-    print_number(rt, r.url as u32)?;
-    print_number(rt, r.connection as u32)?;
-    print_number(rt, r.keys as u32)?;
-    for key in 0..8usize {
-        print_number(rt, cookies[key])?;
+    print_number(rt, u32::from(r.map))?;
+    print_number(rt, u32::from(r.url))?;
+    print_number(rt, u32::from(r.connection))?;
+    print_number(rt, u32::from(r.keys))?;
+    for value in &r.cookies {
+        print_number(rt, *value)?;
     }
-    print_number(rt, r.script as u32)?;
+    print_number(rt, u32::from(r.script))?;
     print_number(rt, r.value)?;
-    print_number(rt, r.target as u32)
+    print_number(rt, u32::from(r.target))
 }
 
 // Encodes a record with URL 1 and connection 2 whose other fields, and room, the line gives.
 fn tried(rt: &HostRuntime, d: Direction, b: &[u8]) -> io::Result<()> {
-    let first = wide(at(b, 3));
-    let last = wide(at(b, 4));
+    let first = u32::from(at(b, 3));
+    let last = u32::from(at(b, 4));
     let fields = Record {
         map: at(b, 1),
         url: 1,
@@ -232,10 +223,10 @@ fn tried(rt: &HostRuntime, d: Direction, b: &[u8]) -> io::Result<()> {
         keys: at(b, 2),
         cookies: [first, 0, 0, 0, 0, 0, 0, last],
         script: at(b, 5),
-        value: wide(at(b, 6)),
+        value: u32::from(at(b, 6)),
         target: at(b, 7),
     };
-    encoded(rt, d, fields, at(b, 0) as usize)
+    encoded(rt, d, fields, usize::from(at(b, 0)))
 }
 
 // Writes the fields into the first `room` bytes of a buffer of 44 that are all 238, and shows the answer and the buffer after.
@@ -254,21 +245,18 @@ fn encode_within(
     if space.len() < room {
         return Ok(());
     }
-    let answer = records::encode(d, r, &mut space[0..room]);
-    print(rt, b"\n ")?;
-    print_number(rt, answer.number)?;
-    print!(rt; " {}", answer.length)?;
-    print(rt, b" :")?;
-    print_bytes(rt, space)
+    match records::encode(d, r, &mut space[..room]) {
+        Ok(length) => print_written(rt, records::ACCEPTED, length, space),
+        Err(error) => print_written(rt, error.number(), 0, space),
+    }
 }
 
-fn print_bytes(rt: &HostRuntime, bytes: &[u8]) -> io::Result<()> {
-    for i in 0..bytes.len() {
-        print_number(rt, wide(bytes[i]))?;
+fn print_written(rt: &HostRuntime, number: u32, length: usize, space: &[u8]) -> io::Result<()> {
+    print(rt, b"\n ")?;
+    print_number(rt, number)?;
+    print!(rt; " {length} :")?;
+    for byte in space {
+        print_number(rt, u32::from(*byte))?;
     }
     Ok(())
-}
-
-fn wide(b: u8) -> u32 {
-    b as u32
 }

@@ -45,21 +45,23 @@ module _ (d : Direction) (bytes : List ℕ) where
   unfolding decoded
   decoded_accepted e = rw e
 
+  pub passes : map_unknown d bytes ≡ false → keys_zero bytes ≡ false → length bytes ≡ size (map_of bytes) (keys_of bytes) → read_refusal d bytes ≡ accepted
+  unfolding read_refusal
+  passes known keyed e = none_applies accepted (read_refusals d bytes) (known, (keyed, (length_right e, tt)))
+
   pub accepts : (length bytes ≡ 0 → ⊥) → is_one_of (map_of bytes) (maps d) ≡ true → keys_zero bytes ≡ false
       → length bytes ≡ size (map_of bytes) (keys_of bytes) → read_refusal d bytes ≡ accepted
-  unfolding read_refusal
-  accepts ne known keyed e =
-      none_applies accepted (read_refusals d bytes) (map_known ne known, (keyed, (length_right e, tt)))
+  accepts ne known keyed e = passes (map_known ne known) keyed e
 
 -- ---- what acceptance says: every test passed
 
-or-false : (x y : Bool) → x || not y ≡ false → (x ≡ false) × (y ≡ true)
+pub or-false : (x y : Bool) → x || not y ≡ false → (x ≡ false) × (y ≡ true)
 or-false true y e = absurd (true≢false e)
 or-false false true e = (refl, refl)
 or-false false false e = absurd (true≢false e)
 
 -- of two tests that are not both passed, the second implying the first, the second is not passed
-and_false_needed : (x y : Bool) → (T y → T x) → x && y ≡ false → y ≡ false
+pub and_false_needed : (x y : Bool) → (T y → T x) → x && y ≡ false → y ≡ false
 and_false_needed x false needs e = refl
 and_false_needed true true needs e = absurd (true≢false e)
 and_false_needed false true needs e = absurd (needs tt)

@@ -1,7 +1,7 @@
 -- What encoding answers at each of its tests. No record is longer than the longest, and the code's test of the fields is the definition's.
 use Rattle.prelude.proofs.Kit.{ℕ, ◌≤◌, ◌<◌, ◌+◌, ◌^◌, ◌*◌, pred, zero-add, arith, true, ◌&&◌, Bool, false, not, ◌||◌, and_assoc, and-true}
 use Rattle.prelude.proofs.Kit.{List, ◌∷◌, [], ◌++◌, map, ◌≡◌, sym, ◌∙◌, refl, ap, subst, ap₂, le-ltb, lt-ltb, bit_or, T, eqb, ltb, eqb→eq}
-use Rattle.prelude.proofs.Kit.{length, drop, sets, and_r, and_l}
+use Rattle.prelude.proofs.Kit.{length, drop, and_r, and_l}
 use lib.Dec.{leb, leb→le}
 use lib.Seq.{sets-eq}
 use Rattle.prelude.specs.Refusals.{accepted}
@@ -14,8 +14,9 @@ use Rattle.records.specs.Bytes.{bit}
 use Rattle.records.specs.Layout.{key_numbers, maps, longest, widths, sum, fit_widths, values, size}
 use Rattle.records.specs.Codec.{no_room, not_carriable, is_one_of, no_key_set, carriable, bytes_of, write_refusals, write_refusal, encoded}
 use Rattle.records.specs.Places.{front_widths, cookie_widths, back_widths}
+use Rattle.records.specs.Writing.{Wrote}
 use Rattle.records.proofs.Joining.{length_join}
-use Rattle.records.proofs.Writing.{widths_split, values_split, size_split, front_sum, front_count, cookie_count, back_count}
+use Rattle.records.proofs.InTurn.{widths_split, values_split, size_split, front_sum, front_count, cookie_count, back_count}
 
 pub counted : (r : Record) → length (values r) ≡ length (widths r.map r.keys)
 unfolding values widths
@@ -80,17 +81,16 @@ module _ (r : Record) (eight : length r.cookies ≡ 8) where
   in_three =
       rw (widths_split m r.keys, values_split r eight, fits_append (front_widths m) (cookie_widths r.keys ++ (back_widths m ++ (0 ∷ []))) (r.url ∷ r.connection ∷ r.keys ∷ []) (r.cookies ++ (r.script ∷ r.value ∷ r.target ∷ 0 ∷ [])) (front_count r eight), fits_append (cookie_widths r.keys) (back_widths m ++ (0 ∷ [])) r.cookies (r.script ∷ r.value ∷ r.target ∷ 0 ∷ []) (cookie_count r eight), fits_append (back_widths m) (0 ∷ []) (r.script ∷ r.value ∷ r.target ∷ []) (0 ∷ []) (back_count r eight), and-true)
 
-  pub all_fit : (u c k cs s v t : ℕ)
-      → eqb u 0 ≡ ltb r.url (256 ^ (1 * bit m 0))
-      → eqb c 0 ≡ ltb r.connection (256 ^ (1 * bit m 1))
+  pub all_fit : (bit m 0 ≡ 1) × (bit m 1 ≡ 1) → r.url < 256 → r.connection < 256 → (k cs s v t : ℕ)
       → eqb k 0 ≡ ltb r.keys (256 ^ (1 * bit m 2))
       → eqb cs 0 ≡ fit_widths (cookie_widths r.keys) r.cookies
       → eqb s 0 ≡ ltb r.script (256 ^ (1 * bit m 3))
       → eqb v 0 ≡ ltb r.value (256 ^ (4 * bit m 4))
       → eqb t 0 ≡ ltb r.target (256 ^ (1 * bit m 5))
-      → eqb (bit_or (bit_or (bit_or (bit_or (bit_or (bit_or u c) k) cs) s) v) t) 0 ≡ fit_widths (widths m r.keys) (values r)
+      → eqb (bit_or (bit_or (bit_or (bit_or k cs) s) v) t) 0 ≡ fit_widths (widths m r.keys) (values r)
   unfolding fit_widths front_widths back_widths widths
-  all_fit u c k cs s v t eu ec ek ecs es ev et = rw in_three (simp (or_zero, eu, ec, ek, ecs, es, ev, et, and_assoc, and-true))
+  all_fit front u c k cs s v t ek ecs es ev et =
+      rw in_three (simp (or_zero, front.0, front.1, lt-ltb r.url 256 u, lt-ltb r.connection 256 c, ek, ecs, es, ev, et, and_assoc, and-true))
 
 -- ---- the answers
 
@@ -128,13 +128,14 @@ module _ (d : Direction) (r : Record) (out : List ℕ) where
   unfolding encoded
   encoded_accepted e = rw e
 
-  pub written_whole : {n : ℕ} {after : List ℕ} → longest d ≤ length out → carriable d r ≡ true → n ≡ size r.map r.keys → after ≡ sets out 0 (bytes_of r)
+  pub room_left : longest d ≤ length out → carriable d r ≡ true → 0 + length (bytes_of r) ≤ length out
+  room_left l e = omega (arith, l, size_longest d r.map r.keys (known d r (subst T (sym e) tt)), bytes_length r)
+
+  pub written_whole : {n : ℕ} {after : List ℕ} → longest d ≤ length out → carriable d r ≡ true → Wrote 0 out (bytes_of r) n after
       → record { number = accepted; length = n; buffer = after } ≡ encoded d r out
-  written_whole {n} {after} l e en ea =
-      let fit : 0 + length (bytes_of r) ≤ length out =
-      omega (arith, size_longest d r.map r.keys (known d r (subst T (sym e) tt)), bytes_length r) in
-      let same_length : n ≡ length (bytes_of r) = en ∙ sym (bytes_length r) in
+  written_whole {n} {after} l e w =
+      let same_length : n ≡ length (bytes_of r) = omega (arith, w.place) in
       let whole : after ≡ bytes_of r ++ drop (length (bytes_of r)) out =
-      ea ∙ sets-eq (bytes_of r) out 0 fit ∙ ap (λ (k : ℕ). bytes_of r ++ drop k out) (zero-add (length (bytes_of r))) in
+      w.held ∙ sets-eq (bytes_of r) out 0 (room_left l e) ∙ ap (λ (k : ℕ). bytes_of r ++ drop k out) (zero-add (length (bytes_of r))) in
       ap₂ (λ (k : ℕ) (b : List ℕ). record { number = accepted; length = k; buffer = b }) same_length whole
       ∙ sym (encoded_accepted (no_write_refusal l e))

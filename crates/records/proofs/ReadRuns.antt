@@ -1,47 +1,29 @@
 -- The run of records that bytes are, one by one: the first of them, and the run of what follows it.
 use Rattle.prelude.proofs.Kit.{ℕ, ◌≤◌, ◌<◌, ◌+◌, suc, zero, arith, List, ◌∷◌, [], ◌≡◌, sym, ◌∙◌, refl, ap, ne_eqb, eqb, length, take, drop}
-use Rattle.prelude.proofs.Kit.{length-append, length-drop, ℕ_discrete, true, false, Bool, ◌&&◌, ◌||◌, cond, true≢false, subst, T, ltb, ltb→lt, and_l, and_r}
-use borrow.Author.Tests.{eqb-true}
+use Rattle.prelude.proofs.Kit.{length-append, length-drop, ℕ_discrete, true, false, Bool, cond, true≢false}
 use lib.ListN.{take-append-drop}
 use Rattle.prelude.specs.Refusals.{accepted}
 use Rattle.records.specs.declared.Direction.{Direction}
 use Rattle.records.specs.declared.Direction.TheVariants.{Request}
-use Rattle.records.specs.declared.Decoded.{Decoded}
 use Rattle.records.specs.declared.Record.{Record}
-use Rattle.records.specs.Bytes.{bit}
-use Rattle.records.specs.Layout.{maps, sum, size}
-use Rattle.records.specs.Codec.{is_one_of, map_of, keys_of, decoded, first_record, decoded_first, Run, read_at_most, read_run}
+use Rattle.records.specs.Answers.{Decoded}
+use Rattle.records.specs.Layout.{sum, size}
+use Rattle.records.specs.Codec.{map_of, keys_of, decoded, first_record, decoded_first, Run, read_at_most, read_run}
 use Rattle.records.specs.Places.{cookie_widths}
 use Rattle.records.proofs.Values.{same_keys}
 use Rattle.records.proofs.Decoding.{known, right_length, decoded_accepted}
-use Rattle.records.proofs.Writing.{size_split, front_end}
+use Rattle.records.proofs.FromLeft.{has_front}
+use Rattle.records.proofs.InTurn.{size_split, front_end}
 
 -- ---- how long a request is
 
--- every map of a list has URL and connection
-fronts : List ℕ → Bool
-fronts [] = true
-fronts (m ∷ ms) = ltb 1 (bit m 0 + bit m 1) && fronts ms
-
-has_front : (ms : List ℕ) (m : ℕ) → T (fronts ms) → is_one_of m ms ≡ true → 2 ≤ bit m 0 + bit m 1
-unfolding is_one_of fronts
-has_front [] m t e = absurd (true≢false (sym e))
-has_front (k ∷ ms) m t e = go (eqb m k) refl (has_front ms m (and_r (ltb 1 (bit k 0 + bit k 1)) (fronts ms) t)) e
-  where
-    here : 2 ≤ bit k 0 + bit k 1
-    here = ltb→lt 1 (bit k 0 + bit k 1) (and_l (ltb 1 (bit k 0 + bit k 1)) (fronts ms) t)
-
-    go : (b : Bool) → eqb m k ≡ b → (is_one_of m ms ≡ true → 2 ≤ bit m 0 + bit m 1) → b || is_one_of m ms ≡ true → 2 ≤ bit m 0 + bit m 1
-    go true q rest e = subst (λ (n : ℕ). 2 ≤ bit n 0 + bit n 1) (sym (eqb-true m k q)) here
-    go false q rest e = rest e
-
 -- map, URL and connection, and the cookies that it carries
 request_size : (bytes : List ℕ) → (decoded Request bytes).number ≡ accepted → 3 + sum (cookie_widths (decoded Request bytes).fields.keys) ≤ length bytes
-unfolding decoded fronts
+unfolding decoded
 request_size bytes ok =
     let m = map_of bytes in
     let keys : (decoded Request bytes).fields.keys ≡ keys_of bytes = ap (λ (d : Decoded). d.fields.keys) (decoded_accepted Request bytes ok) ∙ same_keys bytes in
-    rw keys (omega (arith, has_front (maps Request) m tt (known Request bytes ok).1, right_length Request bytes ok, size_split m (keys_of bytes), front_end m (keys_of bytes)))
+    rw keys (omega (arith, has_front Request m (known Request bytes ok).1, right_length Request bytes ok, size_split m (keys_of bytes), front_end m (keys_of bytes)))
 
 -- a record, and a run after it
 abbrev pub followed : Record → Run → Run

@@ -1,37 +1,32 @@
--- A byte and a word at a place of a slice, read and written.
-use Rattle.prelude.proofs.Kit.{ℕ, ◌≤◌, ◌<◌, ◌+◌, suc, ◌*◌, ◌%◌, ◌/◌, mod-eq_of_lt, div-one, add-one, arith, List, ◌≡◌, refl, length, take}
-use Rattle.prelude.proofs.Kit.{drop, get_or, set, drop_of_length-le, sets, drop-cons}
+-- A byte and a word as the bytes of a record, most significant first.
+use Rattle.prelude.proofs.Kit.{ℕ, ◌≤◌, ◌<◌, ◌+◌, ◌*◌, suc, add-one, mod-eq_of_lt, div-one, arith, List, ◌∷◌, [], ◌≡◌, sym, ◌∙◌, refl, ap, subst, length, take, take_all, drop, drop-cons, get_or}
 use native.Mathlib.Numerals.{add-two, add-three}
-use lib.Seq.{take-nil}
+use Rattle.std.specs.Int.{w32, from_be_bytes, to_be_bytes}
 use Rattle.records.specs.Bytes.{number, digits}
+use Rattle.records.proofs.Joining.{spelt, spelt_is}
 
-module _ (l : List ℕ) (at : ℕ) where
-  pub number_none : number (take 0 (drop at l)) ≡ 0
-  unfolding number
-  number_none = refl
+pub number_none : (l : List ℕ) (at : ℕ) → number (take 0 (drop at l)) ≡ 0
+unfolding number
+number_none l at = refl
 
-  pub number_past : (w : ℕ) → length l ≤ at → number (take w (drop at l)) ≡ 0
-  unfolding number
-  number_past w h = rw (drop_of_length-le l h, take-nil w)
+pub number_four : (l : List ℕ) (at : ℕ) → at + 4 ≤ length l
+    → number (take 4 (drop at l)) ≡ get_or l at 0 * 0x100_0000 + get_or l (at + 1) 0 * 0x1_0000 + get_or l (at + 2) 0 * 0x100 + get_or l (at + 3) 0
+unfolding number
+number_four l at h =
+    rw (drop-cons l at 0 (omega arith), drop-cons l (suc at) 0 (omega arith), drop-cons l (suc (suc at)) 0 (omega arith), drop-cons l (suc (suc (suc at))) 0 (omega arith), add-one at, add-two at, add-three at)
+    (omega arith)
 
-  pub number_one : at < length l → number (take 1 (drop at l)) ≡ get_or l at 0
-  unfolding number
-  number_one h = rw (drop-cons l at 0 h) (omega arith)
+pub number_byte : (l : List ℕ) → length l ≡ 1 → get_or l 0 0 ≡ number l
+unfolding number spelt
+number_byte l e = subst (λ (k : List ℕ). get_or k 0 0 ≡ number k) (spelt_is 1 l e) (omega arith)
 
-  pub number_four : at + 4 ≤ length l → number (take 4 (drop at l)) ≡ get_or l at 0 * 0x100_0000 + get_or l (at + 1) 0 * 0x1_0000 + get_or l (at + 2) 0 * 0x100 + get_or l (at + 3) 0
-  unfolding number
-  number_four h =
-      rw (drop-cons l at 0 (omega arith), drop-cons l (suc at) 0 (omega arith), drop-cons l (suc (suc at)) 0 (omega arith), drop-cons l (suc (suc (suc at))) 0 (omega arith), add-one at, add-two at, add-three at)
-      (omega arith)
+pub number_word : (l : List ℕ) → length l ≡ 4 → from_be_bytes w32 l ≡ number l
+number_word l e = sym (number_four l 0 (omega arith)) ∙ ap number (take_all 4 l (omega arith))
 
-  pub sets_none : (v : ℕ) → l ≡ sets l at (digits 0 v)
-  unfolding digits
-  sets_none v = refl
+pub digits_byte : (v : ℕ) → v < 256 → v ∷ [] ≡ digits 1 v
+unfolding digits
+digits_byte v h = rw (div-one v, mod-eq_of_lt h)
 
-  pub sets_one : (v : ℕ) → v < 256 → set l at v ≡ sets l at (digits 1 v)
-  unfolding digits
-  sets_one v h = rw (div-one v, mod-eq_of_lt h)
-
-  pub sets_four : (v : ℕ) → set (set (set (set l at (v / 0x100_0000 % 256)) (at + 1) (v / 0x1_0000 % 256)) (at + 2) (v / 0x100 % 256)) (at + 3) (v % 256) ≡ sets l at (digits 4 v)
-  unfolding digits
-  sets_four v = rw (div-one v, add-one at, add-two at, add-three at)
+pub digits_word : (v : ℕ) → to_be_bytes w32 v ≡ digits 4 v
+unfolding digits
+digits_word v = rw (div-one v)

@@ -3,9 +3,7 @@ use Rattle.std.specs.Prelude.{ℕ, zero, suc, ◌+◌, Bool, false, not, ◌&&�
 use Rattle.prelude.specs.Refusals.{accepted, Refusal, refuse, first_of}
 use Rattle.records.specs.declared.Direction.{Direction}
 use Rattle.records.specs.declared.Record.{Record}
-use Rattle.records.specs.declared.Decoded.{Decoded}
-use Rattle.records.specs.declared.Encoded.{Encoded}
-use Rattle.records.specs.declared.First.{First}
+use Rattle.records.specs.Answers.{Decoded, Encoded, First}
 use Rattle.records.specs.Bytes.{bit}
 use Rattle.records.specs.Layout.{cookies_bit, maps, widths, key_map_at, size, longest, join, split, fit_widths, values, from_values}
 
@@ -99,7 +97,7 @@ pub record Written : Type 0 where
   pub length : ℕ
   pub buffer : List ℕ
 
--- an answer of the code with the buffer that it leaves
+-- an answer with the buffer that it leaves
 abbrev pub written : Encoded → List ℕ → Written
 written answer out = record { number = answer.number; length = answer.length; buffer = out }
 

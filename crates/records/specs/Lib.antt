@@ -1,7 +1,10 @@
 pub mod Bytes
 pub mod Layout
+pub mod Answers
 pub mod Codec
+pub mod Results
 pub mod Cases
 pub mod RoundTrips
 pub mod Places
-pub mod Header
+pub mod Reading
+pub mod Writing

@@ -2,20 +2,22 @@
 #![tactic(auto)]
 
 ghost use Rattle.std.specs.Prelude.{◌≡◌};
-ghost use Rattle.records.specs.Codec.{refused, decoded, first, decoded_first, written, encoded};
+ghost use Rattle.records.specs.Codec.{decoded, decoded_first, written, encoded};
+ghost use Rattle.records.specs.Results.{decoded_as, first_as, encoded_as};
 
-mod bytes;
 mod checks;
-mod fields;
-mod header;
+mod errors;
+mod layout;
 pub mod map_bytes;
-mod places;
+mod reading;
+mod writing;
 
+use checks::carriable;
 pub use checks::{LONGEST_INPUT, LONGEST_REQUEST, SHORTEST_REQUEST};
-use checks::{carriable, longest};
-use fields::{read, write};
-use header::read_header;
-pub use places::count_keys;
+pub use errors::{DecodeError, EncodeError};
+pub use layout::count_keys;
+use reading::Reader;
+use writing::Writer;
 
 // The numbers of what is accepted and of what encoding refuses.
 pub const ACCEPTED: u32 = 0;
@@ -32,14 +34,14 @@ pub const KEY_MAP_EMPTY: u32 = 12;
 pub const CUT_OR_TOO_LONG: u32 = 11;
 
 // Whether a record is an input of the monitor or a request that it sends.
-#[derive(Clone, Copy)]
+#[derive(Clone, Copy, Debug, PartialEq, Eq)]
 pub enum Direction {
     Input,
     Request,
 }
 
 // The fields of a record; one that the map does not carry is 0. Document 01 calls a connection a lane.
-#[derive(Clone, Copy)]
+#[derive(Clone, Copy, Debug, PartialEq, Eq)]
 pub struct Record {
     pub map: u8,
     pub url: u8,
@@ -52,115 +54,47 @@ pub struct Record {
     pub target: u8,
 }
 
-// What decoding answers: 0 and the fields, or a refusal and every field 0.
-#[derive(Clone, Copy)]
-pub struct Decoded {
-    pub number: u32,
-    pub fields: Record,
-}
-
-// What encoding answers: 0 and the bytes written, or a refusal and 0.
-#[derive(Clone, Copy)]
-pub struct Encoded {
-    pub number: u32,
-    pub length: usize,
-}
-
-fn refused(number: u32) -> Decoded
-    ensures { result ≡ refused number }
+// Reads a record. Refused are, with the first that applies: bytes that are empty or whose map the direction does not have; a record that carries
+// cookies and whose key map byte is there and zero; one whose length is not what its maps call for.
+pub fn decode(direction: Direction, bytes: &[u8]) -> Result<Record, DecodeError>
+    ensures { decoded_as result ≡ decoded direction bytes.now }
 {
-    Decoded {
-        number,
-        fields: Record {
-            map: 0,
-            url: 0,
-            connection: 0,
-            keys: 0,
-            cookies: [0; 8],
-            script: 0,
-            value: 0,
-            target: 0,
-        },
+    let first = decode_first(direction, bytes)?;
+    if first.length != bytes.len() {
+        return Err(DecodeError::WrongLength);
     }
+    Ok(first.fields)
 }
 
-// Reads a record: 0 and its fields; 10 where it is empty or the direction does not have its map; 12 where it carries cookies and its key map
-// byte is there and zero; 11 where its length is not what its maps call for.
-pub fn decode(direction: Direction, bytes: &[u8]) -> Decoded
-    ensures { result ≡ decoded direction bytes.now }
-{
-    let header = read_header(direction, bytes);
-    if header.number != ACCEPTED {
-        return refused(header.number);
-    }
-    if bytes.len() != header.length {
-        return refused(CUT_OR_TOO_LONG);
-    }
-    Decoded {
-        number: ACCEPTED,
-        fields: read(header.map, header.keys, bytes),
-    }
-}
-
-// The first of some records one after another, as `decode` reads it, and how many bytes it has; 0 where it is refused.
-#[derive(Clone, Copy)]
+// The first of some records one after another, and how many bytes it has.
+#[derive(Clone, Copy, Debug, PartialEq, Eq)]
 pub struct First {
-    pub number: u32,
     pub fields: Record,
     pub length: usize,
-}
-
-fn refused_first(number: u32) -> First
-    ensures { result ≡ first (refused number) 0 }
-{
-    let none = refused(number);
-    let fields = none.fields;
-    First {
-        number,
-        fields,
-        length: 0,
-    }
 }
 
 // Reads the first of some records one after another: as many bytes as its maps call for are the record.
-pub fn decode_first(direction: Direction, bytes: &[u8]) -> First
-    ensures { result ≡ decoded_first direction bytes.now }
+pub fn decode_first(direction: Direction, bytes: &[u8]) -> Result<First, DecodeError>
+    ensures { first_as result ≡ decoded_first direction bytes.now }
 {
-    let header = read_header(direction, bytes);
-    if header.number != ACCEPTED {
-        return refused_first(header.number);
-    }
-    let length = header.length;
-    if bytes.len() < length {
-        return refused_first(CUT_OR_TOO_LONG);
-    }
-    First {
-        number: ACCEPTED,
-        fields: read(header.map, header.keys, &bytes[..length]),
-        length,
-    }
+    let mut reader = Reader { rest: bytes };
+    let fields = reader.record(direction)?;
+    let length = bytes.len() - reader.rest.len();
+    Ok(First { fields, length })
 }
 
-// Writes a record at the front of a buffer: 0 and its length; 1 where the buffer is shorter than the longest record
-// of the direction; 5 where no map carries the fields. A refusal changes no byte.
-pub fn encode(direction: Direction, fields: Record, out: &mut [u8]) -> Encoded
-    ensures { written result out.new ≡ encoded direction fields out.old }
+// Writes a record at the front of a buffer, and answers its length. Refused are, with the first that applies: a buffer that is shorter than the
+// longest record of the direction; fields that no map carries. A refusal changes no byte.
+pub fn encode(direction: Direction, fields: Record, out: &mut [u8]) -> Result<usize, EncodeError>
+    ensures { written (encoded_as result) out.new ≡ encoded direction fields out.old }
 {
-    if out.len() < longest(direction) {
-        return Encoded {
-            number: NO_ROOM,
-            length: 0,
-        };
+    if out.len() < direction.longest() {
+        return Err(EncodeError::NoRoom);
     }
     if !carriable(direction, fields) {
-        return Encoded {
-            number: NOT_CARRIABLE,
-            length: 0,
-        };
+        return Err(EncodeError::NotCarriable);
     }
-    let length = write(fields, out);
-    Encoded {
-        number: ACCEPTED,
-        length,
-    }
+    let mut writer = Writer::new(out);
+    writer.record(fields);
+    Ok(writer.at)
 }

@@ -86,15 +86,15 @@ fn request(
     }
 }
 
-// Writes a request into the part of the output that follows `at`; answers the place after it. It does not look at the number that encoding
-// answers: the monitor's requests can always be written (`SentReadsBack`).
+// Writes a request into the part of the output that follows `at`; answers the place after it. It does not look at what encoding
+// refuses: the monitor's requests can always be written (`SentReadsBack`).
 fn write_next(fields: Record, out: &mut [u8], at: usize) -> usize
     requires { at ≤ length out.old }
     ensures { (output result out.new ≡ write_next fields (output at out.old))
         × (result ≤ length out.old) }
 {
     let written = records::encode(Direction::Request, fields, &mut out[at..]);
-    at + written.length
+    at + written.unwrap_or(0)
 }
 
 // Opens or moves a connection, whatever was pending on it, and writes its request into the part of the output that follows `at`;

@@ -1,9 +1,8 @@
 -- What walk prints (document 01, "Program walk").
-use Rattle.std.specs.Prelude.{ℕ, ◌≤◌, List, [], ◌∷◌, ◌++◌, ◌≡◌, ◌≢◌, length}
-use Rattle.prelude.specs.Refusals.{accepted}
+use Rattle.std.specs.Prelude.{ℕ, List, [], ◌∷◌, ◌++◌}
 use Rattle.records.specs.declared.Direction.TheVariants.{Request}
 use Rattle.records.specs.declared.Record.{Record}
-use Rattle.records.specs.Codec.{decoded_first, read_run}
+use Rattle.records.specs.Codec.{read_run}
 use Rattle.transcript.specs.declared.input.Ending.{Ending}
 use Rattle.transcript.specs.declared.input.Ending.TheVariants.{End, Cut}
 use Rattle.transcript.specs.Input.{InputSize, Short, Long, Fits}
@@ -43,15 +42,3 @@ ending_word Cut = 0x63 ∷ 0x75 ∷ 0x74 ∷ []
 
 abbrev pub last_line : Ending → ℕ → ℕ → List ℕ
 last_line ending accepted refused = line (ending_word ending ∷ decimal accepted ∷ decimal refused ∷ [])
-
--- ---- for the contracts of the functions within the crate
-
--- no request is at the front of some bytes
-abbrev pub NoRequest : List ℕ → Type 0
-NoRequest sent = (decoded_first Request sent).number ≢ accepted
-
--- this one is, of so many bytes, which are all there
-pub record IsRequest (sent : List ℕ) (r : Record) (n : ℕ) : Type 0 where
-  pub read : decoded_first Request sent ≡ record { number = accepted; fields = r; length = n }
-  pub least : 3 ≤ n
-  pub within : n ≤ length sent

@@ -1,13 +1,13 @@
 // The lines that walk prints.
-ghost use Rattle.std.specs.Prelude.{◌≡◌, ◌≢◌, ◌+◌, ◌*◌, ◌≤◌, [], ◌∷◌, ◌++◌, length, MatchOption};
+ghost use Rattle.std.specs.Prelude.{◌≡◌, ◌+◌, ◌*◌, ◌≤◌, [], ◌∷◌, ◌++◌, length};
 ghost use Rattle.text.specs.Writing.{HasRoom, Writes};
 ghost use Rattle.transcript.specs.Input.{told_size};
-ghost use Rattle.transcript.specs.Lines.{size_line, request_line, sent_lines, record_lines, ending_word, last_line, NoRequest, IsRequest};
+ghost use Rattle.transcript.specs.Lines.{size_line, request_line, sent_lines, record_lines, ending_word, last_line};
 
 use super::counts::Counts;
 use super::input::{Ending, Unfit};
 use monitor::Answer;
-use records::{Direction, Record};
+use records::Direction;
 use text::Writer;
 
 // What is printed of an input that walk does not take; of any other, nothing.
@@ -34,18 +34,6 @@ fn write_request_line(text: &mut Writer<'_>, url: u8, connection: u8, keys: u8)
     text.write_hex(keys, b'\n');
 }
 
-// The first of some bytes, where it is a request, and how many bytes it has.
-fn first_request(sent: &[u8]) -> Option<(Record, usize)>
-    ensures { MatchOption result (NoRequest sent.now) (λ first. IsRequest sent.now first.0 first.1) }
-{
-    let first = records::decode_first(Direction::Request, sent);
-    if first.number == records::ACCEPTED {
-        Some((first.fields, first.length))
-    } else {
-        None
-    }
-}
-
 // A line for each request at the front of the bytes; the first bytes that are not a request end them. A request has at least
 // 3 bytes and its line at most 13, so five times the bytes are room enough.
 fn write_request_lines(text: &mut Writer<'_>, sent: &[u8])
@@ -53,9 +41,10 @@ fn write_request_lines(text: &mut Writer<'_>, sent: &[u8])
     ensures { Writes text.old (sent_lines sent.now) text.new }
 {
     let mut rest = sent;
-    while let Some((request, length)) = first_request(rest) {
-        write_request_line(text, request.url, request.connection, request.keys);
-        rest = &rest[length..];
+    while let Ok(request) = records::decode_first(Direction::Request, rest) {
+        let fields = request.fields;
+        write_request_line(text, fields.url, fields.connection, fields.keys);
+        rest = &rest[request.length..];
     }
 }
 

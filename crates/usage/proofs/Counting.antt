@@ -1,6 +1,6 @@
 -- The loop over a list of requests: what is counted so far, and what the rest of the list has, make the whole.
 use Rattle.prelude.proofs.Kit.{ℕ, ◌≤◌, ◌<◌, ◌+◌, ◌*◌, zero-add, arith, true, Bool, false, ◌&&◌, List, ◌∷◌, [], map, ◌≡◌, sym, ◌∙◌}
-use Rattle.prelude.proofs.Kit.{refl, ap, T, eqb, ltb, ltb→lt, and_l, length, drop, get_or, set, length-set, eq-eqb, subst, true≢false, ne_eqb, drop_of_length-le, length-drop, drop-drop}
+use Rattle.prelude.proofs.Kit.{refl, ap, T, eqb, ltb, ltb→lt, and_l, length, drop, get_or, set, length-set, eq-eqb, subst, true≢false, ne_eqb, drop_of_length-le}
 use mathlib.Core.Bool.{and-false}
 use lib.ListN.{replicate, length-replicate, get_or-replicate}
 use lib.Seq.{get_or-set_same, get_or-set_other, ext_get_or}
@@ -9,7 +9,10 @@ use Rattle.prelude.specs.Choice.{keep, every}
 use Rattle.prelude.specs.Lists.{numbers}
 use Rattle.prelude.specs.Refusals.{accepted}
 use Rattle.records.specs.declared.Direction.TheVariants.{Request}
-use Rattle.records.specs.declared.First.{First}
+use Rattle.std.specs.Prelude.{Ok}
+use Rattle.records.specs.declared.First.{First as FirstRead}
+use Rattle.records.specs.Answers.{First}
+use Rattle.records.specs.Results.{first_as}
 use Rattle.records.specs.declared.Record.{Record}
 use Rattle.records.specs.Codec.{decoded_first, Run, read_run}
 use Rattle.records.proofs.ReadRuns.{followed, nothing, first_bytes, first_size, run_end, run_none, run_more}
@@ -85,25 +88,21 @@ module _ (w : Record → ℕ) where
 
 -- ---- the list of bytes
 
--- `from` bytes are counted: the requests that are left are read off the rest of them
-pub record Counting (requests by_url carried_by_url : List ℕ) (records_in_all cookies_in_all from : ℕ) : Type 0 where
-  pub below : from ≤ length requests
-  pub same : good (read_run Request (drop from requests)) ≡ good (read_run Request requests)
-  pub records : Counted one (read_run Request requests).records (read_run Request (drop from requests)).records by_url records_in_all
-  pub cookies : Counted carried (read_run Request requests).records (read_run Request (drop from requests)).records carried_by_url cookies_in_all
+-- the requests that are left to count are read off the bytes that are left
+pub record Counting (requests by_url carried_by_url : List ℕ) (records_in_all cookies_in_all : ℕ) (left : List ℕ) : Type 0 where
+  pub same : good (read_run Request left) ≡ good (read_run Request requests)
+  pub records : Counted one (read_run Request requests).records (read_run Request left).records by_url records_in_all
+  pub cookies : Counted carried (read_run Request requests).records (read_run Request left).records carried_by_url cookies_in_all
 
 module _ {requests : List ℕ} where
-  pub counting_begins : Counting requests (replicate url_rows 0) (replicate url_rows 0) 0 0 0
+  pub counting_begins : Counting requests (replicate url_rows 0) (replicate url_rows 0) 0 0 requests
   counting_begins =
       let all = (read_run Request requests).records in
-      record { below = omega arith; same = refl; records = counted_begins one all; cookies = counted_begins carried all }
+      record { same = refl; records = counted_begins one all; cookies = counted_begins carried all }
 
-  module _ {by_url carried_by_url : List ℕ} {records_in_all cookies_in_all from : ℕ} (c : Counting requests by_url carried_by_url records_in_all cookies_in_all from) where
-    abbrev left : List ℕ
-    left = drop from requests
-
+  module _ {by_url carried_by_url left : List ℕ} {records_in_all cookies_in_all : ℕ} (c : Counting requests by_url carried_by_url records_in_all cookies_in_all left) where
     -- nothing is left of the bytes
-    pub counting_ends : length requests ≤ from
+    pub counting_ends : length left ≡ 0
         → (good (read_run Request requests) ≡ true)
         × (by_url ≡ map (λ u. weight one (requests_to u (read_run Request requests).records)) urls)
         × (carried_by_url ≡ map (λ u. weight carried (requests_to u (read_run Request requests).records)) urls)
@@ -111,68 +110,62 @@ module _ {requests : List ℕ} where
         × (cookies_in_all ≡ weight carried (read_run Request requests).records)
     unfolding good every
     counting_ends h =
-        let end : read_run Request left ≡ nothing [] = ap (read_run Request) (drop_of_length-le requests h) ∙ run_end Request in
+        let end : read_run Request left ≡ nothing [] = ap (read_run Request) (drop_of_length-le left {i = 0} (omega arith)) ∙ run_end Request in
         let records = counted_ends one (subst (λ (run : Run). Counted one (read_run Request requests).records run.records by_url records_in_all) end c.records) in
         let cookies = counted_ends carried (subst (λ (run : Run). Counted carried (read_run Request requests).records run.records carried_by_url cookies_in_all) end c.cookies) in
         (sym c.same ∙ ap good end, records.0, cookies.0, records.1, cookies.1)
 
     -- the next bytes are not a request
-    pub none_next : from < length requests → ((decoded_first Request left).number ≡ accepted → ⊥) → good (read_run Request requests) ≡ false
+    pub none_next : (length left ≡ 0 → ⊥) → ((decoded_first Request left).number ≡ accepted → ⊥) → good (read_run Request requests) ≡ false
     unfolding good
-    none_next h ne =
-        let some : length left ≡ 0 → ⊥ = λ e. omega (arith, e, length-drop from requests) in
-        sym c.same ∙ ap good (run_none Request left ne) ∙ ap (λ (b : Bool). b && all_in_range []) (ne_eqb (length left) 0 some)
+    none_next some ne = sym c.same ∙ ap good (run_none Request left ne) ∙ ap (λ (b : Bool). b && all_in_range []) (ne_eqb (length left) 0 some)
 
-    module _ {d : First} (read : d ≡ decoded_first Request left) (ok : d.number ≡ accepted) where
+    module _ {f : FirstRead} (read : first_as (Ok f) ≡ decoded_first Request left) where
       first_ok : (decoded_first Request left).number ≡ accepted
-      first_ok = sym (ap (λ (r : First). r.number) read) ∙ ok
+      first_ok = sym (ap (λ (r : First). r.number) read)
 
       rest : List ℕ
-      rest = drop (from + d.length) requests
+      rest = drop f.length left
 
-      next : read_run Request left ≡ followed d.fields (read_run Request rest)
+      next : read_run Request left ≡ followed f.fields (read_run Request rest)
       unfolding rest
-      next = rw (← drop-drop d.length from requests, read) (run_more Request left first_ok)
+      next = rw (← read) at (run_more Request left first_ok)
 
-      pub bytes_next : (1 ≤ d.length) × (from + d.length ≤ length requests)
-      bytes_next =
-          let size = ap (λ (r : First). r.length) read in
-          let bytes = first_bytes Request left first_ok in
-          (omega (arith, size, bytes.0), omega (arith, size, bytes.0, bytes.1, length-drop from requests))
+      pub bytes_next : (1 ≤ f.length) × (f.length ≤ length left)
+      bytes_next = rw (← read) at (first_bytes Request left first_ok)
 
       -- the shortest request carries no cookies
-      shortest_carries_none : d.length ≡ 3 → carried d.fields ≡ 0
+      shortest_carries_none : f.length ≡ 3 → carried f.fields ≡ 0
       shortest_carries_none e =
-          let keys = ap (λ (r : First). r.fields.keys) read in
-          let size = ap (λ (r : First). r.length) read in
-          none_carried d.fields (rw keys (omega (arith, e, size, first_size left first_ok)))
+          let size = rw (← read) at (first_size left first_ok) in
+          none_carried f.fields (omega (arith, e, size))
 
-      good_next : good (read_run Request requests) ≡ eqb (length (read_run Request rest).left) 0 && (in_range d.fields && all_in_range (read_run Request rest).records)
+      good_next : good (read_run Request requests) ≡ eqb (length (read_run Request rest).left) 0 && (in_range f.fields && all_in_range (read_run Request rest).records)
       unfolding good every
       good_next = sym c.same ∙ ap good next
 
       -- it is a request that is not in range
-      pub out_of_range : in_range d.fields ≡ false → good (read_run Request requests) ≡ false
+      pub out_of_range : in_range f.fields ≡ false → good (read_run Request requests) ≡ false
       out_of_range e = good_next ∙ rw e (and-false (eqb (length (read_run Request rest).left) 0))
 
-      records_left : Counted one (read_run Request requests).records (d.fields ∷ (read_run Request rest).records) by_url records_in_all
+      records_left : Counted one (read_run Request requests).records (f.fields ∷ (read_run Request rest).records) by_url records_in_all
       records_left = subst (λ (run : Run). Counted one (read_run Request requests).records run.records by_url records_in_all) next c.records
 
-      cookies_left : Counted carried (read_run Request requests).records (d.fields ∷ (read_run Request rest).records) carried_by_url cookies_in_all
+      cookies_left : Counted carried (read_run Request requests).records (f.fields ∷ (read_run Request rest).records) carried_by_url cookies_in_all
       cookies_left = subst (λ (run : Run). Counted carried (read_run Request requests).records run.records carried_by_url cookies_in_all) next c.cookies
 
-      module _ (e : in_range d.fields ≡ true) where
-        pub url_next : d.fields.url < url_rows
+      module _ (e : in_range f.fields ≡ true) where
+        pub url_next : f.fields.url < url_rows
         url_next =
-            let r = d.fields in
+            let r = f.fields in
             ltb→lt r.url url_rows (and_l (ltb r.url url_rows) (is_connection r.connection && is_script r.script) (subst T (sym e) tt))
 
         -- no count passes 32 bits
         pub counts_small :
-            (get_or by_url d.fields.url 0 + 1 ≤ length requests)
-            × (get_or carried_by_url d.fields.url 0 + carried d.fields ≤ 8 * length requests)
+            (get_or by_url f.fields.url 0 + 1 ≤ length requests)
+            × (get_or carried_by_url f.fields.url 0 + carried f.fields ≤ 8 * length requests)
             × (records_in_all + 1 ≤ length requests)
-            × (cookies_in_all + carried d.fields ≤ 8 * length requests)
+            × (cookies_in_all + carried f.fields ≤ 8 * length requests)
         counts_small =
             let r = counts_fit one records_left url_next in
             let k = counts_fit carried cookies_left url_next in
@@ -180,26 +173,24 @@ module _ {requests : List ℕ} where
             let most = cookies_weigh requests in
             (omega (arith, r.0, few), omega (arith, k.0, most), omega (arith, r.1, few), omega (arith, k.1, most))
 
-        pub counting_passes : d.length ≡ 3
-            → Counting requests (set by_url d.fields.url (get_or by_url d.fields.url 0 + 1)) carried_by_url (records_in_all + 1) cookies_in_all (from + 3)
+        pub counting_passes : f.length ≡ 3
+            → Counting requests (set by_url f.fields.url (get_or by_url f.fields.url 0 + 1)) carried_by_url (records_in_all + 1) cookies_in_all (drop f.length left)
         unfolding rest good
-        counting_passes short = subst (λ (n : ℕ). Counting requests (set by_url d.fields.url (get_or by_url d.fields.url 0 + 1)) carried_by_url (records_in_all + 1) cookies_in_all (from + n)) short (record {
-          below = bytes_next.1;
+        counting_passes short = record {
           same = sym (good_next ∙ rw e);
           records = counted_goes_on one records_left url_next;
           cookies = counted_passes carried (shortest_carries_none short) cookies_left;
-        })
+        }
 
         pub counting_goes_on :
             Counting requests
-            (set by_url d.fields.url (get_or by_url d.fields.url 0 + 1))
-            (set carried_by_url d.fields.url (get_or carried_by_url d.fields.url 0 + carried d.fields))
+            (set by_url f.fields.url (get_or by_url f.fields.url 0 + 1))
+            (set carried_by_url f.fields.url (get_or carried_by_url f.fields.url 0 + carried f.fields))
             (records_in_all + 1)
-            (cookies_in_all + carried d.fields)
-            (from + d.length)
+            (cookies_in_all + carried f.fields)
+            (drop f.length left)
         unfolding rest good
         counting_goes_on = record {
-          below = bytes_next.1;
           same = sym (good_next ∙ rw e);
           records = counted_goes_on one records_left url_next;
           cookies = counted_goes_on carried cookies_left url_next;

@@ -1,3 +1,4 @@
 pub mod Tally
+pub mod Results
 pub mod Lines
 pub mod Cases

@@ -3,11 +3,12 @@
 
 ghost use Rattle.std.specs.Prelude.{◌≡◌, ◌≤◌, length};
 ghost use Rattle.usage.specs.Tally.{in_range, list_bytes, refused, tallied};
+ghost use Rattle.usage.specs.Results.{told};
 
 use policy::words::CONNECTIONS;
 pub use policy::words::URL_ROWS;
 pub use records::ACCEPTED;
-use records::{Direction, Record, SHORTEST_REQUEST};
+use records::{DecodeError, Direction, Record, SHORTEST_REQUEST};
 use session::pending::SCRIPTS;
 
 // The longest list that is counted.
@@ -27,7 +28,8 @@ pub struct Tally {
     pub all_cookies: u32,
 }
 
-fn refused(number: u32) -> Tally
+// The answer to a list without requests, with a number.
+fn nothing(number: u32) -> Tally
     ensures { result ≡ refused number }
 {
     Tally {
@@ -48,45 +50,51 @@ fn in_range(request: Record) -> bool
         & ((request.script as usize) < SCRIPTS)
 }
 
+// A list that is not wholly request records that are in range.
+#[derive(Clone, Copy, Debug, PartialEq, Eq)]
+struct BadList;
+
+impl From<DecodeError> for BadList {
+    fn from(_error: DecodeError) -> BadList {
+        BadList
+    }
+}
+
 // Counts a list that is not too long. The first bytes that are not a request in range refuse it.
-fn count(requests: &[u8]) -> Tally
+fn count(requests: &[u8]) -> Result<Tally, BadList>
     requires { length requests.now ≤ list_bytes }
-    ensures { result ≡ tallied requests.now }
+    ensures { told result ≡ tallied requests.now }
 {
-    let mut by_url = [0u32; URL_ROWS];
-    let mut carried_by_url = [0u32; URL_ROWS];
-    let mut all_records = 0u32;
-    let mut all_cookies = 0u32;
-    let mut from = 0;
-    while from < requests.len() {
-        let request = records::decode_first(Direction::Request, &requests[from..]);
-        if request.number != ACCEPTED {
-            return refused(LIST_BAD);
+    let mut tally = nothing(ACCEPTED);
+    // The totals stand apart, where the compiler keeps them in registers.
+    let mut all_records = 0;
+    let mut all_cookies = 0;
+    let mut left = requests;
+    while !left.is_empty() {
+        let first = records::decode_first(Direction::Request, left)?;
+        let request = first.fields;
+        if !in_range(request) {
+            return Err(BadList);
         }
-        let fields = request.fields;
-        if !in_range(fields) {
-            return refused(LIST_BAD);
-        }
-        let url = fields.url as usize;
-        by_url[url] = by_url[url] + 1;
-        all_records = all_records + 1;
-        // Such a request carries no cookies. Passed by a constant, it need not be measured before the next one is read.
-        if request.length == SHORTEST_REQUEST {
-            from = from + SHORTEST_REQUEST;
+        let url = request.url as usize;
+        tally.records[url] += 1;
+        all_records += 1;
+        // Such a request carries no cookies. Passed by a constant, it need not be measured before the next one is read (without this arm a list
+        // of such requests takes half as long again).
+        if first.length == SHORTEST_REQUEST {
+            left = &left[SHORTEST_REQUEST..];
             continue;
         }
-        let carried = records::count_keys(fields.keys) as u32;
-        carried_by_url[url] = carried_by_url[url] + carried;
-        all_cookies = all_cookies + carried;
-        from = from + request.length;
+        let carried = records::count_keys(request.keys) as u32;
+        tally.cookies[url] += carried;
+        all_cookies += carried;
+        left = &left[first.length..];
     }
-    Tally {
-        number: ACCEPTED,
-        records: by_url,
-        cookies: carried_by_url,
+    Ok(Tally {
         all_records,
         all_cookies,
-    }
+        ..tally
+    })
 }
 
 // Counts a list of request records one right after another: include/usage.h. Every length and content is answered.
@@ -95,7 +103,10 @@ pub extern "C" fn usage_count(requests: &[u8]) -> Tally
     ensures { result ≡ tallied requests.now }
 {
     if LIST_BYTES < requests.len() {
-        return refused(LIST_BAD);
+        return nothing(LIST_BAD);
     }
-    count(requests)
+    match count(requests) {
+        Ok(tally) => tally,
+        Err(BadList) => nothing(LIST_BAD),
+    }
 }

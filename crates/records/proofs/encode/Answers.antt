@@ -1,8 +1,11 @@
 -- `encode` meets its contract: at each return the tests that led there say what encoding answers.
-use Rattle.prelude.proofs.Kit.{◌≤◌, arith, true, ◌≡◌, sym, ◌∙◌, subst, T, length}
+use Rattle.prelude.proofs.Kit.{◌≤◌, true, ◌≡◌, sym, ◌∙◌, subst, T, length, rules}
+use Rattle.prelude.specs.Refusals.{accepted}
 use Rattle.records.specs.Layout.{longest}
-use Rattle.records.specs.Codec.{carriable}
-use Rattle.records.proofs.Encoding.{no_room_lem, not_carriable_lem, written_whole, size_longest, known}
+use Rattle.records.specs.Codec.{carriable, encoded}
+use Rattle.prelude.proofs.Choices.{is_true}
+use Rattle.records.proofs.FromLeft.{has_front}
+use Rattle.records.proofs.Encoding.{no_room_lem, not_carriable_lem, written_whole, room_left, known}
 use Rattle.records.proofs.encode.Goals.{Else-not-carriable, Else-out-longest}
 use Rattle.records.proofs.encode.Goals as goal
 
@@ -14,25 +17,26 @@ carried : (m : Else-not-carriable) → carriable m.args.direction m.args.fields 
 carried m = sym m.carriable.ensures ∙ m.if-not-carriable.false
 
 pub returns-then-out-longest : goal.returns-then-out-longest
-returns-then-out-longest c =
-    let a = c.args in
-    no_room_lem a.direction a.fields a.out.now (rw c.longest.ensures at c.if-out-longest.true)
+returns-then-out-longest c = no_room_lem c.args.direction c.args.fields c.args.out.now (rw c.longest.ensures at c.if-out-longest.true)
 
 pub returns-then-not-carriable : goal.returns-then-not-carriable
 returns-then-not-carriable c =
-    let m = c in
-    let a = m.args in
-    not_carriable_lem a.direction a.fields a.out.now (room (goal.at.returns-then-not-carriable c).Else-out-longest) (sym c.carriable.ensures ∙ c.if-not-carriable.true)
+    not_carriable_lem c.args.direction c.args.fields c.args.out.now (room (goal.at.returns-then-not-carriable c).Else-out-longest) (sym c.carriable.ensures ∙ c.if-not-carriable.true)
 
-pub write-length-requires : goal.write-length-requires
-write-length-requires c =
-    let m = c in
-    let a = m.args in
-    omega (arith, room (goal.at.write-length-requires c).Else-out-longest, size_longest a.direction a.fields.map a.fields.keys (known a.direction a.fields (subst T (sym (carried (goal.at.write-length-requires c).Else-not-carriable)) tt)))
+pub record-requires-clause-front : goal.record-requires-clause-front
+record-requires-clause-front c =
+    has_front c.args.direction c.args.fields.map (is_true _ (known c.args.direction c.args.fields (subst T (sym (carried (goal.at.record-requires-clause-front c).Else-not-carriable)) tt)))
+
+pub record-requires-clause-room : goal.record-requires-clause-room
+record-requires-clause-room c =
+    let s = goal.at.record-requires-clause-room c in
+    rw (c.new-writer.ensures.at, c.new-writer.ensures.bytes)
+    (room_left c.args.direction c.args.fields c.args.out.now (room s.Else-out-longest) (carried s.Else-not-carriable))
 
 pub returns : goal.returns
 returns c =
-    let call = c in
-    let m = call in
-    let a = m.args in
-    written_whole a.direction a.fields a.out.now (room (goal.at.returns c).Else-out-longest) (carried (goal.at.returns c).Else-not-carriable) call.write-length.ensures.0 call.write-length.ensures.1
+    let s = goal.at.returns c in
+    let wrote = rw (c.new-writer.ensures.at, c.new-writer.ensures.bytes) at c.record.ensures.wrote in
+    let whole : record { number = accepted; length = c.record.new.self.at; buffer = c.record.new.self.out.now } ≡ encoded c.args.direction c.args.fields c.args.out.now =
+    written_whole c.args.direction c.args.fields c.args.out.now (room s.Else-out-longest) (carried s.Else-not-carriable) wrote in
+    search (rules, whole)

@@ -1,10 +1,14 @@
--- `count` meets its contract: what is counted and what is left make the whole, and at each return the tests say what is answered.
-use Rattle.prelude.proofs.Kit.{◌-◌, length}
+-- `count` meets its contract: what is counted and what is left make the whole.
+use Rattle.prelude.proofs.Kit.{◌≡◌, length}
+use Rattle.prelude.specs.Refusals.{accepted}
 use Rattle.usage.proofs.Counting.{Counting}
 use Rattle.usage.proofs.count.Given as goal
 
-abbrev pub invariant-loop-from : goal.invariant-loop-from
-invariant-loop-from l = Counting l.requests l.by_url l.carried_by_url l.all_records l.all_cookies l.from
+abbrev pub invariant-loop-left : goal.invariant-loop-left
+invariant-loop-left l = record {
+  none_refused : l.tally.number ≡ accepted;
+  counting : Counting l.requests l.tally.records l.tally.cookies l.all_records l.all_cookies l.left;
+}
 
-abbrev pub decreases-loop-from : goal.decreases-loop-from
-decreases-loop-from l = length l.requests - l.from
+abbrev pub decreases-loop-left : goal.decreases-loop-left
+decreases-loop-left l = length l.left

@@ -4,4 +4,4 @@ use Rattle.usage.proofs.Answers.{too_long}
 use Rattle.usage.proofs.usage_count.Goals as goal
 
 pub returns-then-requests-gt-LIST_BYTES : goal.returns-then-requests-gt-LIST_BYTES
-returns-then-requests-gt-LIST_BYTES c = c.refused.ensures ∙ too_long c.args.requests.now c.if-requests-gt-LIST_BYTES.true
+returns-then-requests-gt-LIST_BYTES c = c.nothing.ensures ∙ too_long c.args.requests.now c.if-requests-gt-LIST_BYTES.true

@@ -3,8 +3,9 @@ use Rattle.prelude.proofs.Kit.{arith, not, sym, ◌∙◌, ap, subst, rules, ne_
 use Rattle.prelude.proofs.Kit.{take}
 use Rattle.prelude.proofs.Refusals.{NoneOf}
 use Rattle.records.specs.declared.Direction.TheVariants.{Input}
-use Rattle.records.specs.declared.Decoded.{Decoded}
+use Rattle.records.specs.Answers.{Decoded}
 use Rattle.records.specs.Codec.{decoded}
+use Rattle.records.proofs.Numbers.{error_refused}
 use Rattle.records.proofs.RoundTrips.{longest_is}
 use Rattle.machine.specs.Scripts.{table_bytes}
 use Rattle.machine.specs.Machine.{event_of, output_room, plain, lent_refusals}
@@ -108,30 +109,24 @@ returns-then-not-sound c =
     ∙ refused_by_lem a.policy.now a.scripts.now a.state.now a.bytes.now a.out.now 3 (table (goal.at.returns-then-not-sound c).Else-scripts-ne-TABLE_BYTES)
     (ap not (sym m.sound.ensures ∙ c.if-not-sound.true)) (omega arith)
 
-pub returns-then-read-ne-ACCEPTED : goal.returns-then-read-ne-ACCEPTED
-returns-then-read-ne-ACCEPTED c =
-    let read = c in
-    let m = read in
-    let a = m.args in
-    let number = ap (λ (d : Decoded). d.number) read.decode-read.ensures in
-    let (told, bytes, steps, missing) = c.refused-then-read-ne-ACCEPTED.ensures in
-    as_refused c.refused-then-read-ne-ACCEPTED.result (plain (decoded Input a.bytes.now).number) a.state.now a.out.now (told ∙ number, bytes, steps, missing)
-    ∙ refused_record a.policy.now a.scripts.now a.state.now a.bytes.now a.out.now (state (goal.at.returns-then-read-ne-ACCEPTED c).Else-not-sound) (λ e. c.if-read-ne-ACCEPTED.true (number ∙ e))
+pub returns-in-Err : goal.returns-in-Err
+returns-in-Err c =
+    let a = c.args in
+    let number = c.number.ensures ∙ ap (λ (d : Decoded). d.number) c.in-Err.ensures in
+    let (told, bytes, steps, missing) = c.refused-in-Err.ensures in
+    as_refused c.refused-in-Err.result (plain (decoded Input a.bytes.now).number) a.state.now a.out.now (told ∙ number, bytes, steps, missing)
+    ∙ refused_record a.policy.now a.scripts.now a.state.now a.bytes.now a.out.now (state (goal.at.returns-in-Err c).Else-not-sound)
+    (λ ok. error_refused c.in-Err.error (ap (λ (d : Decoded). d.number) c.in-Err.ensures ∙ ok))
 
 pub react-requires : goal.react-requires
 react-requires c = lent (goal.at.react-requires c).Else-not-sound
 
-pub returns : goal.returns
-returns c =
-    let call = c in
-    let last = call in
-    let read = last in
-    let m = read in
-    let lengths = m in
-    let a = m.args in
-    let number = ap (λ (d : Decoded). d.number) read.decode-read.ensures in
-    call.react.ensures
-    ∙ ap (λ (d : Decoded). reaction a.policy.now a.scripts.now a.state.now (event_of a.policy.now d.fields) a.out.now) read.decode-read.ensures
-    ∙ reacted a.policy.now a.scripts.now a.state.now a.bytes.now a.out.now (state (goal.at.returns c).Else-not-sound) (sym number ∙ last.if-read-ne-ACCEPTED.false)
-    (bytes_are a.scripts.now (λ i. (lengths.type_inv.scripts i).fits)) (words_are a.state.now (search rules))
-    (bytes_are a.bytes.now (λ i. (lengths.type_inv.bytes i).fits))
+pub returns-in-Ok : goal.returns-in-Ok
+returns-in-Ok c =
+    let a = c.args in
+    let number = ap (λ (d : Decoded). d.number) c.in-Ok.ensures in
+    c.react.ensures
+    ∙ ap (λ (d : Decoded). reaction a.policy.now a.scripts.now a.state.now (event_of a.policy.now d.fields) a.out.now) c.in-Ok.ensures
+    ∙ reacted a.policy.now a.scripts.now a.state.now a.bytes.now a.out.now (state (goal.at.returns-in-Ok c).Else-not-sound) (sym number)
+    (bytes_are a.scripts.now (λ i. (c.type_inv.scripts i).fits)) (words_are a.state.now (search rules))
+    (bytes_are a.bytes.now (λ i. (c.type_inv.bytes i).fits))
