@@ -1,3 +1,2 @@
-pub mod TakingOff
 pub mod Splitting
 pub mod Room

@@ -1,43 +1,54 @@
 // The lines of a text file, and the Set-Cookie text of each.
-ghost use Rattle.std.specs.Prelude.{◌≡◌, ◌≤◌, length, take};
-ghost use Rattle.cookie.specs.Parts.{trim_end};
-ghost use Rattle.import.specs.Lines.{is_return, after_name, text_of};
+ghost use Rattle.std.specs.Prelude.{◌≡◌};
+ghost use Rattle.std.specs.Iterator.{YieldsFirstRef, item_count};
+ghost use Rattle.import.specs.Lines.{lines, after_name, text_of};
 
-use cookie::parts::{is_word, position};
+use cookie::parts::{cut, is_word, trim_end};
 
-// The length of a line without the carriage returns at its end, which belong to the file and not to the line.
-fn length_without_returns(line: &[u8]) -> usize
-    ensures { (result ≤ length line.now) × (take result line.now ≡ trim_end is_return line.now) }
-{
-    let mut end = line.len();
-    while 0 < end {
-        if line[end - 1] != b'\r' {
-            return end;
-        }
-        end = end - 1;
+// Gives the lines of a text, one after another.
+#[derive(Clone, Copy)]
+pub struct Lines<'a> {
+    left: &'a [u8],
+}
+
+impl<'a> Lines<'a> {
+    pub fn of(text: &'a [u8]) -> Lines<'a>
+        ensures { result.left.now ≡ text.now }
+    {
+        Lines { left: text }
     }
-    end
+}
+
+impl<'a> Iterator for Lines<'a> {
+    type Item = &'a [u8];
+
+    ghost next_gives = { YieldsFirstRef (λ s. lines s.left.now) };
+
+    ghost remaining = { item_count (λ s. lines s.left.now) };
+
+    fn next(&mut self) -> Option<&'a [u8]> {
+        if self.left.is_empty() {
+            return None;
+        }
+        let (line, behind) = cut(self.left, b'\n');
+        self.left = behind.unwrap_or(&[]);
+        Some(line)
+    }
 }
 
 // A line may be a whole header: its name and its colon are taken off.
 fn after_name(line: &[u8]) -> &[u8]
     ensures { result.now ≡ after_name line.now }
 {
-    let end = position(line, b':');
-    if end == line.len() {
-        return line;
+    match cut(line, b':') {
+        (name, Some(text)) if is_word(name, b"set-cookie") => text,
+        _ => line,
     }
-    if is_word(&line[..end], b"set-cookie") {
-        let start = end + 1;
-        return &line[start..];
-    }
-    line
 }
 
-// What is read as a Set-Cookie line.
+// What is read as a Set-Cookie line. Carriage returns at the end of a line belong to the file and not to the line.
 pub fn text_of(line: &[u8]) -> &[u8]
     ensures { result.now ≡ text_of line.now }
 {
-    let end = length_without_returns(line);
-    after_name(&line[..end])
+    after_name(trim_end(line, |byte| byte == b'\r'))
 }
