@@ -134,6 +134,7 @@ impl<'a, S: EndpointSet> Policy<'a, S> {
     {
         let host = self.url_host(url);
         let message = message_set::<S>(url_address(self.words, url));
+        // A key is a bit and no item of a list: a fold over the range reads no plainer.
         let mut keys = 0;
         for key in 0..HOST_KEYS {
             let carried = message.within(cookie_readers(self.words, host, key));

@@ -123,10 +123,10 @@ fn cookie_values(keys: u8, bytes: &[u8]) -> [u32; 8]
 {
     let mut values = [0; 8];
     let mut rest = bytes;
-    for key in 0..8 {
+    for (key, value) in values.iter_mut().enumerate() {
         if is_set(keys, key) {
-            let (value, after) = rest.split_at(4);
-            values[key] = word(value);
+            let (front, after) = rest.split_at(4);
+            *value = word(front);
             rest = after;
         }
     }

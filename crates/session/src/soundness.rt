@@ -115,7 +115,7 @@ fn four_free(state: &[u32], first: usize) -> bool
     two_connections(state, first) | two_connections(state, first + 2) == 0
 }
 
-// Whether the four connections from this one on are sound.
+// Whether the four connections from this one on are sound. (With `all` over the range no proof was found.)
 fn four_sound<S: EndpointSet>(policy: Policy<'_, S>, state: &[u32], first: usize) -> bool
     requires { (length state.now ≡ state_words) × (first + 4 ≤ connections) }
     ensures { result

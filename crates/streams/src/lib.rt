@@ -10,7 +10,7 @@ use std::io::{ErrorKind, Read};
 
 // Reads until the buffer is full or the input ends, and answers how many bytes stand at the front of the buffer. Where a read fails, so does this;
 // the bytes that came before stand at the front of the buffer. A read that a signal interrupts is made again.
-// A reader may write in the buffer past what it reads.
+// A reader may write in the buffer past what it reads. The library's `read_exact` promises little where a read fails, so the loop is written out.
 pub fn read_full<R: Read>(reader: &mut R, buffer: &mut [u8]) -> io::Result<usize>
     ensures fits { ReadsAtMost result buffer.new }
     ensures kept { length buffer.new ≡ length buffer.old }

@@ -1,5 +1,6 @@
 -- `cookie_values` meets its contract: the values so far and those to come make all.
 use Rattle.prelude.proofs.Kit.{◌*◌, arith, ◌≡◌, sym, ◌∙◌, ap, take, drop}
+use Rattle.std.proofs.lemmas.List.{set-get_or}
 use Rattle.records.specs.Reading.{on}
 use Rattle.records.specs.Bytes.{bit, number}
 use Rattle.records.proofs.Cookies.{sum_from, reading_begins, reading_goes_on, reading_passes, reading_ends}
@@ -25,13 +26,14 @@ loop-key-preserved c =
           let one : bit keys at.key ≡ 1 = sym c.is_set.ensures ∙ ap on w.if-is_set.true in
           let value : w.word.result ≡ number (take (4 * bit keys at.key) at.rest.now) = rw one (w.word.ensures ∙ ap number w.split_at.ensures.front) in
           let after : w.split_at.result.1.now ≡ drop (4 * bit keys at.key) at.rest.now = rw one w.split_at.ensures.back in
-          rw (w.values-is, w.rest-is) (reading_goes_on bytes keys at.values at.rest.now _ at.key _ c.loop-key-test.true at.invariant value after)
+          rw (w.value-items-is, w.rest-is) (reading_goes_on bytes keys at.value-items at.rest.now _ at.key _ c.loop-key-test.true at.invariant value after)
       | else-is_set w ↦
-          rw (w.values-is, w.rest-is) (reading_passes bytes keys at.values at.rest.now at.key c.loop-key-test.true at.invariant (sym c.is_set.ensures ∙ ap on w.if-is_set.false))
+          rw (w.value-items-is, w.rest-is, set-get_or at.value-items at.key 0)
+          (reading_passes bytes keys at.value-items at.rest.now at.key c.loop-key-test.true at.invariant (sym c.is_set.ensures ∙ ap on w.if-is_set.false))
     ]
 
 pub returns : goal.returns
 returns c =
     let at = c.loop-key in
     let all : at.key ≡ 8 = omega arith in
-    reading_ends c.args.bytes.now c.args.keys at.values at.rest.now (rw all at at.invariant)
+    reading_ends c.args.bytes.now c.args.keys at.value-items at.rest.now (rw all at at.invariant)
