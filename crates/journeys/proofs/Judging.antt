@@ -1,16 +1,15 @@
 -- What labels say at a place of a journey, by what is missing for a load or for a redirect; and its URL is there.
-use Rattle.prelude.proofs.Kit.{ℕ, ◌≤◌, ◌<◌, suc, zero, Bool, true, false, true≢false, not, ◌&&◌, List, ◌≡◌, sym, ◌∙◌, refl, ap, subst, T, length, get_or, eq-eqb, ne_eqb, and_l, and_r}
+use Rattle.prelude.proofs.Kit.{ℕ, ◌≤◌, ◌<◌, suc, zero, Bool, false, not, ◌&&◌, List, ◌≡◌, sym, ◌∙◌, refl, ap, subst, T, length, get_or, eq-eqb, ne_eqb, and_l, and_r}
 use mathlib.Core.Bool.{and-false}
 use lib.Dec.{leb, leb→le}
 use borrow.Author.Tests.{le-leb, lt-leb}
-use Rattle.std.specs.Prelude.{Option, Some, None, Result, Ok, Err, is_ok, eqb}
-use Rattle.prelude.specs.Choice.{branch}
+use Rattle.std.specs.Prelude.{Result, Ok, Err, is_ok, eqb}
 use Rattle.prelude.specs.Lists.{is_empty}
-use Rattle.prelude.specs.Refusals.{accepted, first_of}
-use Rattle.labels.specs.Membership.{none_missing, is_none, Tells, all_below}
+use Rattle.prelude.specs.Refusals.{accepted}
+use Rattle.labels.specs.Membership.{all_below}
 use Rattle.labels.proofs.Below.{all_at}
 use Rattle.machine.specs.Policy.{is_url, upgraded, well_formed, fit_missing_reader, fit_missing_writer, redirect_missing_reader, redirect_missing_writer}
-use Rattle.machine.specs.Machine.{Verdict, missing_reader, missing_writer, readers_forbid, writers_forbid, plain}
+use Rattle.machine.specs.Machine.{Verdict, missing_reader, missing_writer}
 use Rattle.machine.proofs.Upgrading.{upgraded_url}
 use Rattle.policy.specs.declared.label_refusal.LabelRefusal.{LabelRefusal}
 use Rattle.policy.specs.declared.label_refusal.LabelRefusal.TheVariants.{ReadersForbid, WritersForbid}

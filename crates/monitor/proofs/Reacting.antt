@@ -25,7 +25,7 @@ use Rattle.monitor.specs.declared.refusal.Refusal.{Refusal}
 use Rattle.monitor.specs.declared.refusal.Refusal.TheVariants.{OutputShort, PolicyBad, ScriptsBad, StateUnsound, Malformed, NameUnknown, NotAwaited, Labels}
 use Rattle.monitor.specs.Answers.{fed, did, done, by_verdict, reaction}
 use Rattle.monitor.specs.Events.{told}
-use Rattle.monitor.specs.Refusals.{number_of, verdict_of}
+use Rattle.monitor.specs.Refusals.{number_of}
 
 -- no refusal has the number of what is accepted
 pub some_number : (e : Refusal) → eqb (number_of e) accepted ≡ false

@@ -24,7 +24,8 @@ impl LabelRefusal {
         ensures { result ≡ (forbids self).missing }
     {
         match self {
-            LabelRefusal::ReadersForbid(endpoint) | LabelRefusal::WritersForbid(endpoint) => endpoint,
+            LabelRefusal::ReadersForbid(endpoint) | LabelRefusal::WritersForbid(endpoint) =>
+                endpoint,
         }
     }
 }

@@ -1,7 +1,6 @@
 -- `events::load` meets its contract: each refusal where its test is the first that fails, and else the request that opens the connection.
 use Rattle.prelude.proofs.Kit.{◌≡◌, sym, ◌∙◌, refl, rules}
 use Rattle.std.specs.Prelude.{Ok, Err}
-use Rattle.machine.specs.Policy.{fit_missing_reader, fit_missing_writer}
 use Rattle.machine.specs.Machine.{Load, named, awaited, missing_reader, missing_writer, perform}
 use Rattle.session.specs.Kinds.{number_of}
 use Rattle.monitor.specs.declared.refusal.Refusal.TheVariants.{Labels}
