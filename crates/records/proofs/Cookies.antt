@@ -128,9 +128,6 @@ pub record Testing (keys : ℕ) (values : List ℕ) (met key : ℕ) : Type 0 whe
   pub remains : eqb met 0 && fit_widths (drop key (cookie_widths keys)) (drop key values) ≡ fit_widths (cookie_widths keys) values
 
 module _ (keys : ℕ) (values : List ℕ) where
-  pub testing_begins : length values ≡ 8 → Testing keys values 0 0
-  testing_begins e = record { below = omega arith; eight = e; remains = refl }
-
   pub testing_goes_on : (met key stray : ℕ) → key < 8 → Testing keys values met key
       → eqb stray 0 ≡ ltb (get_or values key 0) (256 ^ (4 * bit keys key)) → Testing keys values (bit_or met stray) (key + 1)
   unfolding fit_widths

@@ -1,13 +1,9 @@
 -- A byte and a word as the bytes of a record, most significant first.
-use Rattle.prelude.proofs.Kit.{ℕ, ◌≤◌, ◌<◌, ◌+◌, ◌*◌, suc, add-one, mod-eq_of_lt, div-one, arith, List, ◌∷◌, [], ◌≡◌, sym, ◌∙◌, refl, ap, subst, length, take, take_all, drop, drop-cons, get_or}
+use Rattle.prelude.proofs.Kit.{ℕ, ◌≤◌, ◌<◌, ◌+◌, ◌*◌, suc, add-one, mod-eq_of_lt, div-one, arith, List, ◌∷◌, [], ◌≡◌, sym, ◌∙◌, ap, subst, length, take, take_all, drop, drop-cons, get_or}
 use native.Mathlib.Numerals.{add-two, add-three}
 use Rattle.std.specs.Int.{w32, from_be_bytes, to_be_bytes}
 use Rattle.records.specs.Bytes.{number, digits}
 use Rattle.records.proofs.Joining.{spelt, spelt_is}
-
-pub number_none : (l : List ℕ) (at : ℕ) → number (take 0 (drop at l)) ≡ 0
-unfolding number
-number_none l at = refl
 
 pub number_four : (l : List ℕ) (at : ℕ) → at + 4 ≤ length l
     → number (take 4 (drop at l)) ≡ get_or l at 0 * 0x100_0000 + get_or l (at + 1) 0 * 0x1_0000 + get_or l (at + 2) 0 * 0x100 + get_or l (at + 3) 0

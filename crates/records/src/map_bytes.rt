@@ -1,4 +1,5 @@
 // The map bytes by name, for those who make requests and tell inputs apart. An input that is none of these is a redirect.
+// Constants and no enum: they are bytes of the wire format, and what they stand for has its enums above, which match on these.
 pub const LOAD: u8 = 0x03;
 
 pub const DOCUMENT_RESPONSE: u8 = 0x0b;
