@@ -1,53 +1,50 @@
--- Two texts compared from a place on: they are the same just where the bytes there are and the rest is.
-use Rattle.prelude.proofs.Kit.{ℕ, ◌≤◌, ◌<◌, ◌+◌, suc, add-one, arith, true, false, List, ◌∷◌, [], map, ◌≡◌, sym, ◌∙◌, refl, ap, length, drop, get_or, eq-eqb, ne_eqb, drop-cons, drop_of_length-le}
+-- A text is compared with a word letter by letter, in any case, and a field with a name up to its first zero.
+use Rattle.prelude.proofs.Kit.{ℕ, ◌+◌, suc, not, cond, take, arith, true, Bool, false, ◌&&◌, List, ◌∷◌, [], map, ◌≡◌, sym, ◌∙◌, refl, ap, ap₂, length, eqb}
 use mathlib.Core.Bool.{and-false}
-use lib.ListN.{length-map, get_or-map}
+use Rattle.std.specs.Char.{to_ascii_lowercase}
+use Rattle.std.specs.List.{list_all, zip, prefix_len}
+use Rattle.prelude.specs.Choice.{branch}
 use Rattle.prelude.specs.Lists.{same_numbers}
-use Rattle.cookie.specs.Parts.{lower}
+use Rattle.cookie.specs.Parts.{lower, before, is_word}
 
-pub other_length : (xs ys : List ℕ) → (length xs ≡ length ys → ⊥) → same_numbers xs ys ≡ false
+other_length : (xs ys : List ℕ) → (length xs ≡ length ys → ⊥) → same_numbers xs ys ≡ false
 unfolding same_numbers
 other_length [] [] ne = absurd (ne refl)
 other_length [] (y ∷ ys) ne = refl
 other_length (x ∷ xs) [] ne = refl
 other_length (x ∷ xs) (y ∷ ys) ne = rw (other_length xs ys (λ e. ne (ap suc e)), and-false)
 
--- at a place, before which the bytes are the same
-pub record Comparing (xs ys : List ℕ) (i : ℕ) : Type 0 where
-  pub long : length xs ≡ length ys
-  pub within : i ≤ length xs
-  pub remains : same_numbers (drop i xs) (drop i ys) ≡ same_numbers xs ys
+lowered : (x : ℕ) → to_ascii_lowercase x ≡ lower x
+lowered x = grind arith
 
-module _ {xs ys : List ℕ} where
-  pub comparing_begins : length xs ≡ length ys → Comparing xs ys 0
-  comparing_begins e = record { long = e; within = omega arith; remains = refl }
+lowered_long : (text : List ℕ) → length (map lower text) ≡ length text
+lowered_long [] = refl
+lowered_long (x ∷ xs) = ap suc (lowered_long xs)
 
-  module _ {i : ℕ} (c : Comparing xs ys i) where
-    pub comparing_stops : i < length xs → (get_or xs i 0 ≡ get_or ys i 0 → ⊥) → false ≡ same_numbers xs ys
-    unfolding same_numbers
-    comparing_stops l ne =
-        sym (rw (drop-cons xs i 0 l, drop-cons ys i 0 (omega (arith, l, c.long)), ne_eqb (get_or xs i 0) (get_or ys i 0) ne)) ∙ c.remains
+abbrev pub letters : ℕ × ℕ → Bool
+letters p = eqb (to_ascii_lowercase p.0) p.1
 
-    pub comparing_goes_on : i < length xs → get_or xs i 0 ≡ get_or ys i 0 → Comparing xs ys (i + 1)
-    unfolding same_numbers
-    comparing_goes_on l e = record {
-      long = c.long;
-      within = omega (arith, l);
-      remains =
-          rw (add-one i)
-          (sym (rw (drop-cons xs i 0 l, drop-cons ys i 0 (omega (arith, l, c.long)), eq-eqb (get_or xs i 0) (get_or ys i 0) e)) ∙ c.remains);
-    }
+pub is_word_by_letters : (text word : List ℕ) → length text ≡ length word → list_all letters (zip text word) ≡ is_word word text
+unfolding is_word same_numbers
+is_word_by_letters [] [] e = refl
+is_word_by_letters [] (y ∷ ys) e = absurd (omega (arith, e))
+is_word_by_letters (x ∷ xs) [] e = absurd (omega (arith, e))
+is_word_by_letters (x ∷ xs) (y ∷ ys) e = ap₂ ◌&&◌ (ap (λ z. eqb z y) (lowered x)) (is_word_by_letters xs ys (omega (arith, e)))
 
-    pub comparing_ends : length xs ≤ i → true ≡ same_numbers xs ys
-    unfolding same_numbers
-    comparing_ends l =
-        let k : length ys ≤ i = omega (arith, c.long) in
-        sym (rw (drop_of_length-le xs l, drop_of_length-le ys k)) ∙ c.remains
+pub is_word_not : (text word : List ℕ) → (length text ≡ length word → ⊥) → false ≡ is_word word text
+unfolding is_word
+is_word_not text word ne = sym (other_length (map lower text) word (λ e. ne (sym (lowered_long text) ∙ e)))
 
--- ---- the small letters of a text
+-- a name ends before its first zero
+abbrev pub is_some : ℕ → Bool
+is_some x = not (eqb x 0)
 
-pub lowered_at : (text : List ℕ) (i : ℕ) → get_or (map lower text) i 0 ≡ lower (get_or text i 0)
-lowered_at text i = get_or-map lower text i 0
-
-pub lowered_long : (text : List ℕ) → length (map lower text) ≡ length text
-lowered_long text = length-map text lower
+pub up_to_zero : (field : List ℕ) → take (prefix_len is_some field) field ≡ before 0 field
+unfolding before branch
+up_to_zero [] = refl
+up_to_zero (x ∷ xs) = go (eqb x 0) (up_to_zero xs)
+  where
+    go : (b : Bool) → take (prefix_len is_some xs) xs ≡ before 0 xs
+        → take (cond (not b) (1 + prefix_len is_some xs) 0) (x ∷ xs) ≡ branch b [] (x ∷ before 0 xs)
+    go true e = refl
+    go false e = let next : 1 + prefix_len is_some xs ≡ suc (prefix_len is_some xs) = omega arith in rw next (ap (λ l. x ∷ l) e)

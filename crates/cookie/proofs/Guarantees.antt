@@ -17,7 +17,7 @@ use Rattle.machine.specs.Policy.{host_keys}
 use Rattle.text.specs.Text.{decimal, digit}
 use Rattle.cookie.specs.declared.Imported.{Imported}
 use Rattle.cookie.specs.declared.attributes.Flags.{Flags}
-use Rattle.text.specs.declared.digits.Value.TheVariants.{Number}
+use Rattle.std.specs.Prelude.{Some}
 use Rattle.cookie.specs.Parts.{has, trim}
 use Rattle.cookie.specs.SetCookie.{semicolon, equals, pair_of, name_of, value_of, some_called, flags_of}
 use Rattle.text.specs.Numbers.{is_digit, number_of, most_digits, largest, is_number, number_read}
@@ -178,7 +178,7 @@ module _ (name : List ℕ) (n : ℕ) (small : n ≤ largest) (no_equals : has eq
   name_is : name_of (pair_of written) ≡ name
   name_is = ap name_of pair_is ∙ ap trim (before_it equals (decimal n) name no_equals) ∙ trimmed
 
-  value_is_lem : number_read (value_of (pair_of written)) ≡ Number n
+  value_is_lem : number_read (value_of (pair_of written)) ≡ Some n
   value_is_lem =
       ap number_read (ap value_of pair_is ∙ ap trim (after_it equals (decimal n) name no_equals) ∙ decimal_untrimmed n small)
       ∙ decimal_is_read n small

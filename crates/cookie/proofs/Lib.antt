@@ -1,6 +1,8 @@
 pub mod Finding
+pub mod Strides
 pub mod Trimming
 pub mod Comparing
+pub mod EqualItems
 pub mod Naming
 pub mod Flagging
 pub mod Answers

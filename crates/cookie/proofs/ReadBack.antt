@@ -9,9 +9,8 @@ use Rattle.prelude.specs.Lists.{same_numbers}
 use Rattle.text.specs.Text.{decimal, decimal_within, digit}
 use Rattle.cookie.specs.Parts.{has, before, after, is_blank, trim_start, trim_end, trim}
 use Rattle.text.proofs.Decimals.{decimal_ten}
-use Rattle.text.specs.declared.digits.Value.TheVariants.{Number}
+use Rattle.std.specs.Prelude.{Some}
 use Rattle.text.specs.Numbers.{is_digit, number_after, number_of, most_digits, largest, is_number, number_read}
-use Rattle.text.proofs.Reading.{is_digit_lem}
 
 -- ---- a byte between two texts
 
@@ -83,7 +82,7 @@ number_join (x ∷ xs) ys n = number_join xs ys (n * 10 + (x - 0x30))
 
 -- a number in decimal is digits, and they make it
 is_one : (d : ℕ) → d < 10 → is_digit (digit d) ≡ true
-is_one d l = is_digit_lem (digit d) (omega arith) (omega arith)
+is_one d l = rw (le-leb 0x30 (digit d) (omega arith), le-leb (digit d) 0x39 (omega arith))
 
 Reads : List ℕ → ℕ → Type 0
 Reads ds n = (every is_digit ds ≡ true) × (number_of ds ≡ n) × (0 < length ds)
@@ -119,7 +118,7 @@ unfolding decimal
 reads n l = within 9 n (omega arith)
 
 -- so it is read as that number
-pub decimal_is_read : (n : ℕ) → n ≤ largest → number_read (decimal n) ≡ Number n
+pub decimal_is_read : (n : ℕ) → n ≤ largest → number_read (decimal n) ≡ Some n
 unfolding is_number Reads
 decimal_is_read n l =
     let r = reads n l in

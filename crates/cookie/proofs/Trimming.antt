@@ -1,31 +1,35 @@
--- Bytes that are passed from either end are what trimming takes off.
-use Rattle.prelude.proofs.Kit.{ℕ, ◌≤◌, ◌<◌, ◌+◌, ◌-◌, suc, zero, add-one, arith, true, Bool, false, ◌&&◌, List, ◌∷◌, [], ◌++◌}
-use Rattle.prelude.proofs.Kit.{◌≡◌, sym, ◌∙◌, refl, ap, length, take, drop, get_or, eqb, length-append, drop-cons, eqb·suc_zero, drop_of_length-le}
+-- What trimming takes off: blanks from the front, and bytes that pass a test from the end.
+use Rattle.prelude.proofs.Kit.{ℕ, ◌<◌, ◌+◌, ◌-◌, suc, zero, arith, true, Bool, false, not, cond, ◌&&◌, List, ◌∷◌, [], ◌++◌}
+use Rattle.prelude.proofs.Kit.{◌≡◌, sym, ◌∙◌, refl, ap, length, take, drop, get_or, eqb, length-append, eqb·suc_zero, drop_of_length-le}
 use lib.Seq.{take-suc, take-length}
+use Rattle.std.specs.Prelude.{Option, Some, None, position}
+use Rattle.std.specs.List.{position_or_len}
 use Rattle.prelude.specs.Choice.{branch}
-use Rattle.cookie.specs.Parts.{is_blank, trim_start, trim_end, trim}
+use Rattle.prelude.proofs.Lists.{rest_is}
+use Rattle.cookie.specs.Parts.{is_blank, trim_start, trim_end}
+use Rattle.cookie.proofs.Finding.{some_is, none_is}
 
--- at a place, where all that stands before it is blank
-pub record Skipping (text : List ℕ) (at : ℕ) : Type 0 where
-  pub within : at ≤ length text
-  pub remains : trim_start (drop at text) ≡ trim_start text
+-- ---- the front
 
-module _ {text : List ℕ} where
-  pub skipping_begins : Skipping text 0
-  skipping_begins = record { within = omega arith; remains = refl }
+abbrev pub is_other : ℕ → Bool
+is_other x = not (is_blank x)
 
-  module _ {at : ℕ} (s : Skipping text at) where
-    pub skipping_stops : at < length text → is_blank (get_or text at 0) ≡ false → drop at text ≡ trim_start text
-    unfolding trim_start branch
-    skipping_stops l e = sym (rw (drop-cons text at 0 l, e)) ∙ s.remains
+from_first : (text : List ℕ) → drop (position_or_len is_other text) text ≡ trim_start text
+unfolding trim_start branch
+from_first [] = refl
+from_first (x ∷ xs) = go (is_blank x) (from_first xs)
+  where
+    go : (b : Bool) → drop (position_or_len is_other xs) xs ≡ trim_start xs
+        → drop (cond (not (not b)) (1 + position_or_len is_other xs) 0) (x ∷ xs) ≡ branch b (trim_start xs) (x ∷ xs)
+    go true e = let next : 1 + position_or_len is_other xs ≡ suc (position_or_len is_other xs) = omega arith in rw next e
+    go false e = refl
 
-    pub skipping_goes_on : at < length text → is_blank (get_or text at 0) ≡ true → Skipping text (at + 1)
-    unfolding trim_start branch
-    skipping_goes_on l e = record { within = omega (arith, l); remains = rw (add-one at) (sym (rw (drop-cons text at 0 l, e)) ∙ s.remains) }
+module _ (text : List ℕ) (r : Option ℕ) (p : r ≡ position is_other text) where
+  pub starts_at : {at : ℕ} → r ≡ Some at → take (length text - at) (drop at text) ≡ trim_start text
+  starts_at {at} e = rest_is text at ∙ ap (λ (n : ℕ). drop n text) (some_is is_other text (sym p ∙ e)).1 ∙ from_first text
 
-    pub skipping_ends : length text ≤ at → drop at text ≡ trim_start text
-    unfolding trim_start
-    skipping_ends l = rw (drop_of_length-le text l) (rw (drop_of_length-le text l) at s.remains)
+  pub starts_nowhere : r ≡ None → [] ≡ trim_start text
+  starts_nowhere e = sym (drop_of_length-le text (none_is is_other text (sym p ∙ e))) ∙ from_first text
 
 -- ---- the end, by any test
 
@@ -45,35 +49,20 @@ module _ (test : ℕ → Bool) where
       go true (suc n) l = rw (eqb·suc_zero n)
       go false (suc n) l = refl
 
-  -- at an end, where all that stands behind it passes
-  pub record Shortening (text : List ℕ) (end : ℕ) : Type 0 where
-    pub within : end ≤ length text
-    pub remains : trim_end test (take end text) ≡ trim_end test text
+  -- the last byte passes, or stays
+  module _ (text : List ℕ) (some : 0 < length text) where
+    last : text ≡ take (length text - 1) text ++ (get_or text (length text - 1) 0 ∷ [])
+    last =
+        let one_less : length text ≡ suc (length text - 1) = omega (arith, some) in
+        sym (take-length text) ∙ ap (λ (n : ℕ). take n text) one_less ∙ take-suc text (length text - 1) 0 (omega (arith, some))
 
-  module _ {text : List ℕ} where
-    pub shortening_begins : Shortening text (length text)
-    shortening_begins = record { within = omega arith; remains = ap (trim_end test) (take-length text) }
+    pub last_passes : test (get_or text (length text - 1) 0) ≡ true → trim_end test (take (length text - 1) text) ≡ trim_end test text
+    last_passes e = sym (ap (trim_end test) last ∙ end_passes (take (length text - 1) text) (get_or text (length text - 1) 0) e)
 
-    module _ {end : ℕ} (s : Shortening text end) where
-      last : 0 < end → take end text ≡ take (end - 1) text ++ (get_or text (end - 1) 0 ∷ [])
-      last p =
-          let one_less : end ≡ suc (end - 1) = omega arith in
-          ap (λ (n : ℕ). take n text) one_less ∙ take-suc text (end - 1) 0 (omega (arith, s.within))
+    pub last_stays : test (get_or text (length text - 1) 0) ≡ false → trim_end test text ≡ text
+    last_stays e = ap (trim_end test) last ∙ end_stays (take (length text - 1) text) (get_or text (length text - 1) 0) e ∙ sym last
 
-      pub shortening_stops : 0 < end → test (get_or text (end - 1) 0) ≡ false → take end text ≡ trim_end test text
-      shortening_stops p e = sym (ap (trim_end test) (last p) ∙ end_stays (take (end - 1) text) (get_or text (end - 1) 0) e ∙ sym (last p)) ∙ s.remains
-
-      pub shortening_goes_on : 0 < end → test (get_or text (end - 1) 0) ≡ true → Shortening text (end - 1)
-      shortening_goes_on p e = record {
-        within = omega (arith, s.within);
-        remains = sym (ap (trim_end test) (last p) ∙ end_passes (take (end - 1) text) (get_or text (end - 1) 0) e) ∙ s.remains;
-      }
-
-      pub shortening_ends : end ≤ 0 → take end text ≡ trim_end test text
-      unfolding trim_end
-      shortening_ends l = let none : end ≡ 0 = omega arith in rw none (rw none at s.remains)
-
--- both ends
-pub trim_is : (text rest : List ℕ) (end : ℕ) → rest ≡ trim_start text → take end rest ≡ trim_end is_blank rest → take end rest ≡ trim text
-unfolding trim
-trim_is text rest end e f = f ∙ ap (trim_end is_blank) e
+  pub none_stays : (text : List ℕ) → length text ≡ 0 → trim_end test text ≡ text
+  unfolding trim_end
+  none_stays [] e = refl
+  none_stays (x ∷ xs) e = absurd (omega (arith, e))

@@ -1,13 +1,16 @@
 -- What is imported of a Set-Cookie line (document 01, "Take in Set-Cookie lines"): the key that has its name, its value as a number, its flags, and who
 -- may read it; or the first refusal that fits, with zeros.
-use Rattle.std.specs.Prelude.{ℕ, ◌*◌, Bool, false, not, ◌&&◌, cond, List, [], ◌∷◌, ltb, eqb, length, take, drop}
+use Rattle.std.specs.Prelude.{ℕ, ◌*◌, Bool, false, not, ◌&&◌, cond, List, [], ◌∷◌, ltb, eqb, length, take, drop, Option, Some, None, Result, Ok, Err}
 use Rattle.prelude.specs.Lists.{is_empty, lowest, same_numbers}
 use Rattle.prelude.specs.Refusals.{accepted, Refusal, refuse, first_of}
 use Rattle.labels.specs.Sets.{word_of}
 use Rattle.labels.specs.Addresses.{hosts, host_endpoints}
 use Rattle.machine.specs.Policy.{host_keys}
 use Rattle.text.specs.Numbers.{number_of, is_number}
+use Rattle.cookie.specs.declared.Cookie.{Cookie}
 use Rattle.cookie.specs.declared.Imported.{Imported}
+use Rattle.cookie.specs.declared.ImportError.{ImportError}
+use Rattle.cookie.specs.declared.ImportError.TheVariants.{HostUnknown, NoName, NoKey, NoNumber}
 use Rattle.cookie.specs.declared.attributes.Flags.{Flags}
 use Rattle.cookie.specs.Parts.{has, before}
 use Rattle.cookie.specs.SetCookie.{equals, pair_of, name_of, value_of, flags_of}
@@ -33,6 +36,10 @@ is_named names name k = not (is_empty (key_name names k)) && same_numbers (key_n
 abbrev pub key_named : List ℕ → List ℕ → ℕ
 key_named names name = lowest host_keys (is_named names name)
 
+-- the same as an Option
+abbrev pub key_of_name : List ℕ → List ℕ → Option ℕ
+key_of_name names name = let k = key_named names name in cond (eqb k host_keys) None (Some k)
+
 -- ---- refusals
 
 abbrev pub host_unknown : ℕ
@@ -46,6 +53,12 @@ no_key = 15
 
 abbrev pub no_number : ℕ
 no_number = 16
+
+abbrev pub number_of_error : ImportError → ℕ
+number_of_error HostUnknown = host_unknown
+number_of_error NoName = no_name
+number_of_error NoKey = no_key
+number_of_error NoNumber = no_number
 
 -- 6: there is no such host. 14: the pair has no `=`, or an empty name. 15: the names are not 128 bytes, or none of them is the name. 16: the value
 -- is no number.
@@ -81,3 +94,15 @@ imported host names line =
     let pair = pair_of line in
     let n = first_of (import_refusals host names pair) accepted in
     cond (eqb n accepted) (answer host (key_named names (name_of pair)) (number_of (value_of pair)) (flags_of line)) (refused n)
+
+-- what a reading of a line tells C
+abbrev pub told : Result Cookie ImportError → Imported
+told (Ok cookie) = record {
+  number = accepted;
+  key = cookie.key;
+  value = cookie.value;
+  secure = cookie.flags.secure;
+  http_only = cookie.flags.http_only;
+  readers = cookie.readers;
+}
+told (Err error) = refused (number_of_error error)

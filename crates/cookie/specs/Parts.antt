@@ -1,6 +1,6 @@
 -- Parts of a text, which is a list of bytes: what stands before and after a byte, what is left without the blanks at its ends, and whether it is
 -- a word in any case of its letters.
-use Rattle.std.specs.Prelude.{ℕ, ◌+◌, ◌≤◌, Bool, false, ◌&&◌, ◌||◌, cond, List, [], ◌∷◌, map, ◌≡◌, leb, eqb, length, drop}
+use Rattle.std.specs.Prelude.{ℕ, ◌+◌, ◌*◌, ◌<◌, ◌≤◌, Bool, false, ◌&&◌, ◌||◌, cond, List, [], ◌∷◌, map, ◌≡◌, leb, eqb, length, get_or, Option, Some, None}
 use Rattle.prelude.specs.Choice.{branch}
 use Rattle.prelude.specs.Lists.{is_empty, same_numbers}
 
@@ -17,6 +17,10 @@ before byte (x ∷ xs) = branch (eqb x byte) [] (x ∷ before byte xs)
 unfoldable pub after : ℕ → List ℕ → List ℕ
 after byte [] = []
 after byte (x ∷ xs) = branch (eqb x byte) xs (after byte xs)
+
+-- what stands behind the first such byte, where there is one
+abbrev pub behind : ℕ → List ℕ → Option (List ℕ)
+behind byte text = cond (has byte text) (Some (after byte text)) None
 
 -- ---- blanks
 
@@ -52,8 +56,11 @@ is_word word text = same_numbers (map lower text) word
 abbrev pub stride : ℕ
 stride = 32
 
--- from one place of a text up to another a byte does not stand: looked for from either, it first stands at the same place
-pub record Past (byte : ℕ) (text : List ℕ) (from to : ℕ) : Type 0 where
-  pub onwards : from ≤ to
-  pub within : to ≤ length text
-  pub remains : from + length (before byte (drop from text)) ≡ to + length (before byte (drop to text))
+-- the first n strides of a text lack a byte
+pub record StridesLack (byte : ℕ) (text : List ℕ) (n : ℕ) : Type 0 where
+  pub within : n * stride ≤ length text
+  pub lack : (k : ℕ) → k < n * stride → eqb (get_or text k 0) byte ≡ false
+
+-- what a function answers of a byte is a test of it
+abbrev pub Tests : (ℕ → Bool → Type 0) → (ℕ → Bool) → Type 0
+Tests post test = (byte : ℕ) (answer : Bool) → post byte answer → answer ≡ test byte

@@ -2,24 +2,26 @@
 ghost use Rattle.std.specs.Prelude.{◌≡◌, ◌||◌};
 ghost use Rattle.cookie.specs.SetCookie.{secure_word, http_only_word, is_called, flags_of};
 
-use super::parts::{is_word, position, trim};
+use super::parts::{cut, is_word, trim};
 
-#[derive(Clone, Copy)]
+#[derive(Clone, Copy, Default)]
 pub struct Flags {
     pub secure: bool,
     pub http_only: bool,
 }
 
-// The flags, with those that an attribute raises.
-fn with_attribute(flags: Flags, attribute: &[u8]) -> Flags
-    ensures { (result.secure ≡ flags.secure || is_called secure_word attribute.now)
-        × (result.http_only ≡ flags.http_only || is_called http_only_word attribute.now) }
-{
-    let end = position(attribute, b'=');
-    let name = trim(&attribute[..end]);
-    Flags {
-        secure: flags.secure | is_word(name, b"secure"),
-        http_only: flags.http_only | is_word(name, b"httponly"),
+impl Flags {
+    // The flags, with those that an attribute raises.
+    fn with(self, attribute: &[u8]) -> Flags
+        ensures { (result.secure ≡ self.secure || is_called secure_word attribute.now)
+            × (result.http_only ≡ self.http_only || is_called http_only_word attribute.now) }
+    {
+        let (name, _) = cut(attribute, b'=');
+        let name = trim(name);
+        Flags {
+            secure: self.secure | is_word(name, b"secure"),
+            http_only: self.http_only | is_word(name, b"httponly"),
+        }
     }
 }
 
@@ -27,17 +29,12 @@ fn with_attribute(flags: Flags, attribute: &[u8]) -> Flags
 pub fn flags_of(line: &[u8]) -> Flags
     ensures { result ≡ flags_of line.now }
 {
-    let mut flags = Flags {
-        secure: false,
-        http_only: false,
-    };
-    let mut at = position(line, b';');
-    while at < line.len() {
-        let start = at + 1;
-        let rest = &line[start..];
-        let end = position(rest, b';');
-        flags = with_attribute(flags, &rest[..end]);
-        at = start + end;
+    let mut flags = Flags::default();
+    let (_, mut left) = cut(line, b';');
+    while let Some(rest) = left {
+        let (attribute, behind) = cut(rest, b';');
+        flags = flags.with(attribute);
+        left = behind;
     }
     flags
 }

@@ -1,9 +1,8 @@
 // What a Set-Cookie line says of a cookie (document 01, "Take in Set-Cookie lines"): its key, its value, its flags, and who may read it.
 #![tactic(auto)]
 
-ghost use Rattle.std.specs.Prelude.{◌≡◌, ◌<◌};
-ghost use Rattle.machine.specs.Policy.{host_keys};
-ghost use Rattle.cookie.specs.Import.{refused, answer, imported};
+ghost use Rattle.std.specs.Prelude.{◌≡◌};
+ghost use Rattle.cookie.specs.Import.{imported, told, number_of_error};
 
 pub mod attributes;
 pub mod names;
@@ -12,9 +11,8 @@ pub mod parts;
 use attributes::{Flags, flags_of};
 use labels::addresses::{HOSTS, host_endpoints};
 use names::{NAMES_BYTES, key_named};
-use parts::{position, trim};
-use policy::words::HOST_KEYS;
-use text::digits::{Value, read_number};
+use parts::{cut, trim};
+use text::digits::read_number;
 
 // The number of a line that nothing refuses.
 pub const ACCEPTED: u32 = 0;
@@ -31,7 +29,39 @@ pub const NO_KEY: u32 = 15;
 // The value is not one to ten digits that make at most 4,294,967,295.
 pub const NO_NUMBER: u32 = 16;
 
-// What is answered: 0, and what the line says; or the number of the first refusal that fits, and zeros.
+// Why a line is refused: the first that fits.
+#[derive(Clone, Copy, Debug, PartialEq, Eq)]
+pub enum ImportError {
+    HostUnknown,
+    NoName,
+    NoKey,
+    NoNumber,
+}
+
+impl ImportError {
+    // The number that C is told.
+    pub fn number(self) -> u32
+        ensures { result ≡ number_of_error self }
+    {
+        match self {
+            ImportError::HostUnknown => HOST_UNKNOWN,
+            ImportError::NoName => NO_NAME,
+            ImportError::NoKey => NO_KEY,
+            ImportError::NoNumber => NO_NUMBER,
+        }
+    }
+}
+
+// What an accepted line says. HttpOnly is only reported, since labels cannot say it.
+#[derive(Clone, Copy)]
+pub struct Cookie {
+    pub key: u32,
+    pub value: u32,
+    pub flags: Flags,
+    pub readers: u32,
+}
+
+// What C is told: 0, and what the line says; or the number of the first refusal that fits, and zeros.
 #[repr(C)]
 #[derive(Clone, Copy)]
 pub struct Imported {
@@ -43,62 +73,55 @@ pub struct Imported {
     pub readers: u32,
 }
 
-fn refused(number: u32) -> Imported
-    ensures { result ≡ refused number }
+// Reads the text after the colon of a Set-Cookie header that a host sent.
+pub fn import(host: u32, names: &[u8], line: &[u8]) -> Result<Cookie, ImportError>
+    ensures { told result ≡ imported host names.now line.now }
 {
-    Imported {
-        number,
-        key: 0,
-        value: 0,
-        secure: false,
-        http_only: false,
-        readers: 0,
+    if HOSTS <= host {
+        return Err(ImportError::HostUnknown);
     }
-}
-
-// An accepted line. HttpOnly is only reported, since labels cannot say it.
-fn answer(host: u32, key: usize, value: u32, flags: Flags) -> Imported
-    requires { key < host_keys }
-    ensures { result ≡ answer host key value flags }
-{
-    Imported {
-        number: ACCEPTED,
+    let (pair, _) = cut(line, b';');
+    let (name, value) = cut(pair, b'=');
+    let value = value.ok_or(ImportError::NoName)?;
+    let name = trim(name);
+    if name.is_empty() {
+        return Err(ImportError::NoName);
+    }
+    if names.len() != NAMES_BYTES {
+        return Err(ImportError::NoKey);
+    }
+    let key = key_named(names, name).ok_or(ImportError::NoKey)?;
+    let value = read_number(trim(value)).ok_or(ImportError::NoNumber)?;
+    let flags = flags_of(&line[pair.len()..]);
+    Ok(Cookie {
         key: key as u32,
         value,
-        secure: flags.secure,
-        http_only: flags.http_only,
+        flags,
         readers: host_endpoints(host, flags.secure),
-    }
+    })
 }
 
-// Reads the text after the colon of a Set-Cookie header that a host sent: include/cookie.h. Every length and content is answered.
+// The same for C: include/cookie.h. Every length and content is answered.
 #[unsafe(no_mangle)]
 pub extern "C" fn cookie_import(host: u32, names: &[u8], text: &[u8]) -> Imported
     ensures { result ≡ imported host names.now text.now }
 {
-    if HOSTS <= host {
-        return refused(HOST_UNKNOWN);
-    }
-    let end = position(text, b';');
-    let pair = &text[..end];
-    let name_end = position(pair, b'=');
-    if name_end == pair.len() {
-        return refused(NO_NAME);
-    }
-    let name = trim(&pair[..name_end]);
-    if name.len() == 0 {
-        return refused(NO_NAME);
-    }
-    if names.len() != NAMES_BYTES {
-        return refused(NO_KEY);
-    }
-    let key = key_named(names, name);
-    if key == HOST_KEYS {
-        return refused(NO_KEY);
-    }
-    let value_start = name_end + 1;
-    match read_number(trim(&pair[value_start..])) {
-        Value::Number(value) => answer(host, key, value, flags_of(&text[end..])),
-        Value::Other => refused(NO_NUMBER),
+    match import(host, names, text) {
+        Ok(cookie) => Imported {
+            number: ACCEPTED,
+            key: cookie.key,
+            value: cookie.value,
+            secure: cookie.flags.secure,
+            http_only: cookie.flags.http_only,
+            readers: cookie.readers,
+        },
+        Err(error) => Imported {
+            number: error.number(),
+            key: 0,
+            value: 0,
+            secure: false,
+            http_only: false,
+            readers: 0,
+        },
     }
 }

@@ -15,6 +15,7 @@ use policy::words::HOST_KEYS;
 use report::{LINE_BYTES, write_line};
 use std::env::{Env, FillError};
 use std::io;
+use text::Writer;
 use text::digits::{Value, read_number};
 
 const INPUT_LIMIT: usize = 65_536;
@@ -128,9 +129,10 @@ fn import_line(
 ) -> io::Result<()>
     requires { IsLine input.now nth × (line_text nth host names.now line.now ≡ printed host names.now input.now nth) }
 {
-    let mut text = [0u8; LINE_BYTES];
-    let end = write_line(&mut text, nth, host, names, line);
-    print(rt, host, names, input, nth, &text[..end])
+    let mut room = [0u8; LINE_BYTES];
+    let mut text = Writer::new(&mut room);
+    write_line(&mut text, nth, host, names, line);
+    print(rt, host, names, input, nth, text.written())
 }
 
 // The only write to standard output: what goes out is all that is printed of line `nth` of the input, and nothing else.

@@ -1,5 +1,5 @@
 -- How much room the pieces of a line take at most, and what is printed by what is answered.
-use Rattle.prelude.proofs.Kit.{ℕ, ◌≤◌, ◌+◌, arith, true, Bool, false, cond, List, ◌++◌, ◌≡◌, sym, ◌∙◌, refl, ap, ap₂, length, length-append, get_or, eqb, eq-eqb, ne_eqb}
+use Rattle.prelude.proofs.Kit.{ℕ, ◌≤◌, ◌+◌, arith, true, Bool, false, cond, List, ◌++◌, ◌≡◌, sym, ◌∙◌, refl, ap, length, length-append, get_or, eqb, ne_eqb}
 use Rattle.prelude.specs.Choice.{branch}
 use Rattle.prelude.specs.Refusals.{accepted}
 use Rattle.prelude.proofs.Choices.{is_false}
@@ -7,11 +7,18 @@ use Rattle.text.specs.Text.{ascii, decimal}
 use Rattle.text.proofs.Decimals.{decimal_ten, number_room}
 use Rattle.machine.specs.Policy.{connections}
 use Rattle.machine.specs.Machine.{readers_forbid, Verdict}
-use Rattle.journeys.specs.declared.Found.{Found}
+use Rattle.std.specs.Prelude.{Option, Some, None, not, T}
+use Rattle.prelude.proofs.Kit.{◌<◌, subst}
+use Rattle.prelude.specs.Refusals.{first_of}
 use Rattle.journeys.specs.declared.Stop.{Stop}
-use Rattle.journeys.specs.Journey.{url_at, judged, carries, found, fails_at, of_url_number, stop_at}
-use Rattle.journeys.specs.Given.{Journey}
-use Rattle.journeys.proofs.Guarantees.{asked_given, carries_none, none_is_told}
+use Rattle.journeys.specs.declared.error.JourneyError.{JourneyError}
+use Rattle.journeys.specs.declared.error.JourneyError.TheVariants.{PolicyBad, JourneyBad, ConnectionUnknown}
+use Rattle.journeys.specs.declared.failure.Failure.{Failure}
+use Rattle.journeys.specs.Answers.{number_of, halted}
+use Rattle.journeys.specs.Legs.{forbids}
+use Rattle.journeys.proofs.Stopping.{stop_failing}
+use Rattle.journeys.specs.Journey.{url_at, judged, carries, carrier, journey_refusals, refused, fails_at, of_url_number, stop, stop_at}
+use Rattle.journeys.proofs.Guarantees.{carries_none, none_is_told, fails_where, found_refused, found_told}
 use Rattle.journey.specs.Report.{labelled, head_text, place_text, set_text, owner_text, lack_text, why_text, failure_text, none_text, refusal_text, found_text, report, NoneCarries, line_room}
 
 -- words and a number
@@ -81,30 +88,47 @@ module _ (p urls : List ℕ) where
       let v = judged p urls c i in
       why_room c (get_or urls i 0) (i + 1) (length urls) v (of_url_number p c (url_at p urls i) v) (url_at p urls i)
 
-  -- the line, by the stop that the code has found
-  pub line_is : (c : ℕ) (s : Stop) → s ≡ stop_at p urls c (fails_at p urls c)
+  line_of : (c : ℕ) (s : Stop) → s ≡ stop_at p urls c (fails_at p urls c)
       → why_text c (get_or urls s.place 0) (s.place + 1) (length urls) (record { number = s.refusal; missing = s.missing }) (eqb s.of_url 1) s.url
       ≡ failure_text p urls c
   unfolding failure_text
-  line_is c s e = let i = fails_at p urls c in rw (e, is_digit_lem (of_url_number p c (url_at p urls i) (judged p urls c i)))
+  line_of c s e = let i = fails_at p urls c in rw (e, is_digit_lem (of_url_number p c (url_at p urls i) (judged p urls c i)))
+
+  -- the line, by the stop that the code has found
+  pub line_is : (c : ℕ) (f : Failure) → halted urls (Some f) ≡ stop_at p urls c (fails_at p urls c)
+      → why_text c (get_or urls f.place 0) (f.place + 1) (length urls) (forbids f.forbidden) f.of_url f.url ≡ failure_text p urls c
+  line_is c f e =
+      ap (λ b. why_text c (get_or urls f.place 0) (f.place + 1) (length urls) (forbids f.forbidden) b f.url) (sym (is_digit_lem f.of_url))
+      ∙ line_of c (halted urls (Some f)) e
+
+  -- a connection that does not carry the journey stops, and where it fails
+  pub stops_at : (c : ℕ) (r : Option Failure) → carries p urls c ≡ false → halted urls r ≡ stop p urls c → halted urls r ≡ stop_at p urls c (fails_at p urls c)
+  stops_at c r e h = h ∙ stop_failing p urls c e
+
+  pub stops : (c : ℕ) (r : Option Failure) → r ≡ None → carries p urls c ≡ false → halted urls r ≡ stop p urls c → ⊥
+  stops c r n e h =
+      let there : halted urls None ≡ stop_at p urls c (fails_at p urls c) = subst (λ (r : Option Failure). halted urls r ≡ stop_at p urls c (fails_at p urls c)) n (stops_at c r e h) in
+      omega (arith, ap (λ (s : Stop). s.place) there, fails_where p urls c (subst (λ (b : Bool). T (not b)) (sym e) tt))
 
   -- ---- what is printed
 
-  module _ (r : Found) where
-    pub report_by : r ≡ found p urls → report p urls ≡ found_text p urls r
-    unfolding report
-    report_by e = ap (found_text p urls) (sym e)
+  -- by what the code has found: a refusal, a connection, or none
+  pub refused_text : (e : JourneyError) → number_of e ≡ first_of (journey_refusals p urls) accepted → report p urls ≡ refusal_text (number_of e)
+  unfolding report
+  refused_text e h = ap (found_text p urls) (sym (found_refused p urls e h)) ∙ told e
+    where
+      told : (e : JourneyError) → found_text p urls (refused (number_of e)) ≡ refusal_text (number_of e)
+      told PolicyBad = refl
+      told JourneyBad = refl
+      told ConnectionUnknown = refl
 
-    pub none_carries : r ≡ found p urls → r.number ≡ accepted → r.connection ≡ connections → Journey p urls × NoneCarries p urls
-    none_carries e n k =
-        let (asked, each) = (none_is_told p urls).0 (sym e ∙ ap₂ (λ (number connection : ℕ). record { number = number; connection = connection }) n k) in
-        (asked_given p urls asked, λ c l. is_false (carries p urls c) (carries_none p urls c (each c l)))
+  pub carried_text : (c : ℕ) → accepted ≡ first_of (journey_refusals p urls) accepted → c ≡ carrier p urls → c < connections → report p urls ≡ decimal c ++ ascii "\n"
+  unfolding report
+  carried_text c h e l = ap (found_text p urls) (sym (found_told p urls c h e)) ∙ rw (ne_eqb c connections (λ q. omega (arith, q, l)))
 
-    pub refused_text : (r.number ≡ accepted → ⊥) → found_text p urls r ≡ refusal_text r.number
-    refused_text ne = rw (ne_eqb r.number accepted ne)
-
-    pub none_text_lem : r.number ≡ accepted → r.connection ≡ connections → found_text p urls r ≡ none_text p urls
-    none_text_lem e n = rw (eq-eqb r.number accepted e, eq-eqb r.connection connections n)
-
-    pub found_text_lem : r.number ≡ accepted → (r.connection ≡ connections → ⊥) → found_text p urls r ≡ decimal r.connection ++ ascii "\n"
-    found_text_lem e n = rw (eq-eqb r.number accepted e, ne_eqb r.connection connections n)
+  pub none_told : accepted ≡ first_of (journey_refusals p urls) accepted → connections ≡ carrier p urls → (report p urls ≡ none_text p urls) × NoneCarries p urls
+  unfolding report
+  none_told h e =
+      let is = found_told p urls connections h e in
+      let (_, each) = (none_is_told p urls).0 (sym is) in
+      (ap (found_text p urls) (sym is), λ c l. is_false (carries p urls c) (carries_none p urls c (each c l)))

@@ -2,7 +2,8 @@
 #![tactic(auto)]
 
 ghost use Rattle.std.specs.Prelude.{◌≡◌, ◌≤◌, length};
-ghost use Rattle.journey.specs.Report.{printed};
+ghost use Rattle.text.specs.Writing.{HasRoom, Writes};
+ghost use Rattle.journey.specs.Report.{report_room, printed};
 
 mod report;
 
@@ -10,6 +11,7 @@ use journeys::MOST_URLS;
 use report::{REPORT_BYTES, write_report};
 use std::env::{Env, FillError};
 use std::io;
+use text::Writer;
 use text::digits::{Value, read_number};
 use transcript::{POLICY_INPUT_ROOM, read_policy};
 
@@ -103,11 +105,21 @@ fn put(urls: &mut [u8], end: usize, url: u32) -> usize
 }
 
 fn find(rt: &HostRuntime, input: &[u8], urls: &[u8]) -> io::Result<()> {
-    let policy = read_policy(input);
-    let words = policy.words;
-    let mut text = [0u8; REPORT_BYTES];
-    let end = write_report(&mut text, &words[..policy.count], urls);
-    print(rt, input, urls, &text[..end])
+    let mut room = [0u8; REPORT_BYTES];
+    let mut text = Writer::new(&mut room);
+    write_journey(&mut text, input, urls);
+    print(rt, input, urls, text.written())
+}
+
+// All that is printed of an input and the URLs; an input that is no policy is told as the policy without words is.
+fn write_journey(text: &mut Writer<'_>, input: &[u8], urls: &[u8])
+    requires { HasRoom text.old report_room }
+    ensures { Writes text.old (printed input.now urls.now) text.new }
+{
+    match read_policy(input) {
+        Some(words) => write_report(text, &words, urls),
+        None => write_report(text, &[], urls),
+    }
 }
 
 // The only write to standard output: what goes out is all that is printed of the input and the URLs, and nothing else.

@@ -1,18 +1,21 @@
-// What is printed of a journey, in a buffer that has room for it.
-ghost use Rattle.std.specs.Prelude.{◌≡◌, false, cond, ◌++◌, ◌+◌, ◌<◌, ◌≤◌, length};
-ghost use Rattle.machine.specs.Policy.{connections};
-ghost use Rattle.text.specs.Text.{decimal, Wrote, AtFront};
+// What is printed of a journey.
+ghost use Rattle.std.specs.Prelude.{◌≡◌, false, ◌++◌, ◌+◌, ◌<◌, ◌≤◌, length};
+ghost use Rattle.machine.specs.Policy.{url_rows, connections};
+ghost use Rattle.text.specs.Text.{decimal};
+ghost use Rattle.text.specs.Writing.{HasRoom, Writes};
 ghost use Rattle.journeys.specs.Journey.{carries};
-ghost use Rattle.journeys.specs.Legs.{verdict};
-ghost use Rattle.journeys.specs.Given.{Journey};
+ghost use Rattle.journeys.specs.Legs.{forbids};
+ghost use Rattle.journeys.specs.Answers.{number_of};
 ghost use Rattle.journey.specs.Report.{head_text, place_text, set_text, owner_text, lack_text, failure_text};
-ghost use Rattle.journey.specs.Report.{why_text, none_text, refusal_text, report, line_room, report_room, NoneCarries};
+ghost use Rattle.journey.specs.Report.{none_text, refusal_text, report, line_room, report_room, NoneCarries};
 
-use journeys::legs::{Judged, READERS_FORBID};
-use journeys::stops::first_stop;
-use journeys::{ACCEPTED, NO_CONNECTION, POLICY_BAD, journey_find};
+use journeys::error::JourneyError;
+use journeys::failure::Failure;
+use journeys::forbidden::Forbidden;
+use journeys::legs::Journey;
+use labels::Bits;
 use policy::words::CONNECTIONS;
-use text::{write_bytes, write_decimal, write_number};
+use text::Writer;
 
 // The line of a connection has fewer.
 const LINE_BYTES: usize = 160;
@@ -20,168 +23,121 @@ const LINE_BYTES: usize = 160;
 pub const REPORT_BYTES: usize = 5 + LINE_BYTES * CONNECTIONS;
 
 // Words, and a number behind them.
-fn write_labelled(text: &mut [u8], at: usize, words: &[u8], n: u32) -> usize
-    requires { at + length words.now + 10 ≤ length text.old }
-    ensures { Wrote text.old at (words.now ++ decimal n) text.new result }
+#[tactic(auto, using(text::proofs::Decimals::decimal_ten, text::proofs::Writing::writes_then))]
+fn write_labelled(text: &mut Writer<'_>, words: &[u8], n: u32)
+    requires { HasRoom text.old (length words.now + 10) }
+    ensures { Writes text.old (words.now ++ decimal n) text.new }
 {
-    let next = write_bytes(text, at, words);
-    write_decimal(text, next, n)
+    text.write_bytes(words);
+    text.write_decimal(n);
 }
 
-fn write_head(text: &mut [u8], at: usize, connection: u32, number: u32) -> usize
-    requires { at + 30 ≤ length text.old }
-    ensures { Wrote text.old at (head_text connection number) text.new result }
+#[tactic(auto, using(text::proofs::Decimals::number_room))]
+fn write_head(text: &mut Writer<'_>, connection: u32, number: u32)
+    requires { HasRoom text.old 30 }
+    ensures { Writes text.old (head_text connection number) text.new }
 {
-    let next = write_number(text, at, connection, b':');
-    write_labelled(text, next, b" refused ", number)
+    text.write_number(connection, b':');
+    write_labelled(text, b" refused ", number);
 }
 
-fn write_place(text: &mut [u8], at: usize, url: u32, nth: u32, count: u32) -> usize
-    requires { at + 44 ≤ length text.old }
-    ensures { Wrote text.old at (place_text url nth count) text.new result }
+#[tactic(auto, using(crate::proofs::Room::labelled_room))]
+fn write_place(text: &mut Writer<'_>, url: u32, nth: u32, count: u32)
+    requires { HasRoom text.old 44 }
+    ensures { Writes text.old (place_text url nth count) text.new }
 {
-    let at_nth = write_labelled(text, at, b" at URL ", url);
-    let at_count = write_labelled(text, at_nth, b" (", nth);
-    write_labelled(text, at_count, b" of ", count)
+    write_labelled(text, b" at URL ", url);
+    write_labelled(text, b" (", nth);
+    write_labelled(text, b" of ", count);
 }
 
-// One text where something is so, and another where it is not.
-fn write_either(text: &mut [u8], at: usize, so: bool, one: &[u8], other: &[u8]) -> usize
-    requires { (at + length one.now ≤ length text.old) × (at + length other.now ≤ length text.old) }
-    ensures { Wrote text.old at (cond so one.now other.now) text.new result }
+// Which set lacks the endpoint.
+fn set_words(forbidden: Forbidden) -> &'static [u8]
+    ensures set { result.now ≡ set_text (forbids forbidden).number }
+    ensures short { length result.now ≤ 33 }
 {
-    if so {
-        return write_bytes(text, at, one);
+    match forbidden {
+        Forbidden::Reader(_) => b" is missing among the readers of ",
+        Forbidden::Writer(_) => b" is missing among the writers of ",
     }
-    write_bytes(text, at, other)
 }
 
-fn write_set(text: &mut [u8], at: usize, number: u32) -> usize
-    requires { at + 33 ≤ length text.old }
-    ensures { Wrote text.old at (set_text number) text.new result }
-{
-    write_either(
-        text,
-        at,
-        number == READERS_FORBID,
-        b" is missing among the readers of ",
-        b" is missing among the writers of ",
-    )
-}
-
-fn write_owner(text: &mut [u8], at: usize, of_url: bool, url: u32, connection: u32) -> usize
-    requires { at + 21 ≤ length text.old }
-    ensures { Wrote text.old at (owner_text of_url url connection) text.new result }
+fn write_owner(text: &mut Writer<'_>, of_url: bool, url: u32, connection: u32)
+    requires { HasRoom text.old 21 }
+    ensures { Writes text.old (owner_text of_url url connection) text.new }
 {
     if of_url {
-        return write_labelled(text, at, b"URL ", url);
+        return write_labelled(text, b"URL ", url);
     }
-    write_labelled(text, at, b"connection ", connection)
+    write_labelled(text, b"connection ", connection);
 }
 
-fn write_lack(
-    text: &mut [u8],
-    at: usize,
-    told: Judged,
-    of_url: bool,
-    url: u32,
-    connection: u32,
-) -> usize
-    requires { at + 77 ≤ length text.old }
-    ensures { Wrote text.old at (lack_text (verdict told) of_url url connection) text.new result }
+fn write_lack(text: &mut Writer<'_>, failure: Failure, connection: u32)
+    requires room { HasRoom text.old 77 }
+    requires url { failure.url < url_rows }
+    ensures { Writes text.old (lack_text (forbids failure.forbidden) failure.of_url failure.url connection) text.new }
 {
-    let at_set = write_labelled(text, at, b"): endpoint ", told.missing);
-    let at_owner = write_set(text, at_set, told.number);
-    let end = write_owner(text, at_owner, of_url, url, connection);
-    write_bytes(text, end, b"\n")
-}
-
-// Why a connection does not take a URL, the nth of so many, in whose place another may be asked for.
-fn write_why(
-    text: &mut [u8],
-    at: usize,
-    connection: u32,
-    url: u32,
-    nth: u32,
-    count: u32,
-    told: Judged,
-    of_url: bool,
-    asked: u32,
-) -> usize
-    requires { at + line_room ≤ length text.old }
-    ensures { Wrote text.old at (why_text connection url nth count (verdict told) of_url asked) text.new result }
-{
-    let at_place = write_head(text, at, connection, told.number);
-    let at_lack = write_place(text, at_place, url, nth, count);
-    write_lack(text, at_lack, told, of_url, asked, connection)
+    write_labelled(text, b"): endpoint ", failure.forbidden.missing());
+    text.write_bytes(set_words(failure.forbidden));
+    write_owner(text, failure.of_url, failure.url as u32, connection);
+    text.write_bytes(b"\n");
 }
 
 // The line of a connection that does not carry the journey.
-fn write_failure(
-    text: &mut [u8],
-    at: usize,
-    policy: &[u32],
-    connection: usize,
-    urls: &[u8],
-) -> usize
-    requires { (at + line_room ≤ length text.old) × Journey policy.now urls.now × (connection < connections)
-        × (carries policy.now urls.now connection ≡ false) }
-    ensures { Wrote text.old at (failure_text policy.now urls.now connection) text.new result }
+fn write_failure(text: &mut Writer<'_>, journey: Journey<'_, Bits>, connection: usize)
+    requires room { HasRoom text.old line_room }
+    requires one { connection < connections }
+    requires fails { carries journey.policy.words.now journey.urls.now connection ≡ false }
+    ensures { Writes text.old (failure_text journey.entry.policy.words.now journey.entry.urls.now connection) text.new }
 {
-    let stop = first_stop(policy, connection, urls);
-    let place = stop.place as usize;
-    let told = Judged {
-        number: stop.refusal,
-        missing: stop.missing,
+    let Some(failure) = journey.first_stop(connection) else {
+        return;
     };
-    write_why(
-        text,
-        at,
-        connection as u32,
-        urls[place] as u32,
-        stop.place + 1,
-        urls.len() as u32,
-        told,
-        stop.of_url == 1,
-        stop.url,
-    )
+    let url = u32::from(journey.urls[failure.place]);
+    let nth = failure.place as u32 + 1;
+    write_head(text, connection as u32, failure.forbidden.number());
+    write_place(text, url, nth, journey.urls.len() as u32);
+    write_lack(text, failure, connection as u32);
 }
 
-fn write_none(text: &mut [u8], policy: &[u32], urls: &[u8]) -> usize
-    requires { (report_room ≤ length text.old) × Journey policy.now urls.now × NoneCarries policy.now urls.now }
-    ensures { Wrote text.old 0 (none_text policy.now urls.now) text.new result }
+fn write_none(text: &mut Writer<'_>, journey: Journey<'_, Bits>)
+    requires room { HasRoom text.old report_room }
+    requires none { NoneCarries journey.policy.words.now journey.urls.now }
+    ensures { Writes text.old (none_text journey.entry.policy.words.now journey.entry.urls.now) text.new }
 {
-    let mut at = write_bytes(text, 0, b"none\n");
+    text.write_bytes(b"none\n");
     for connection in 0..CONNECTIONS {
-        at = write_failure(text, at, policy, connection, urls);
+        write_failure(text, journey, connection);
     }
-    at
 }
 
-fn write_refusal(text: &mut [u8], number: u32) -> usize
-    requires { report_room ≤ length text.old }
-    ensures { Wrote text.old 0 (refusal_text number) text.new result }
+// What is printed of a refusal.
+fn refusal(error: JourneyError) -> &'static [u8]
+    ensures text { result.now ≡ refusal_text (number_of error) }
+    ensures short { length result.now ≤ 85 }
 {
-    write_either(
-        text,
-        0,
-        number == POLICY_BAD,
-        b"refused 2: the policy has the wrong length or is not well formed\n",
-        b"refused 17: the journey is empty, longer than 16 URLs, or names a URL without a row\n",
-    )
+    match error {
+        JourneyError::PolicyBad => {
+            b"refused 2: the policy has the wrong length or is not well formed\n"
+        }
+        _ => {
+            b"refused 17: the journey is empty, longer than 16 URLs, or names a URL without a row\n"
+        }
+    }
 }
 
 // All that is printed of a policy and a journey.
-pub fn write_report(text: &mut [u8], policy: &[u32], urls: &[u8]) -> usize
-    requires { report_room ≤ length text.old }
-    ensures { AtFront (report policy.now urls.now) text.old text.new result }
+#[tactic(auto, using(text::proofs::Decimals::number_room))]
+pub fn write_report(text: &mut Writer<'_>, policy: &[u32], urls: &[u8])
+    requires { HasRoom text.old report_room }
+    ensures { Writes text.old (report policy.now urls.now) text.new }
 {
-    let answer = journey_find(policy, urls);
-    if answer.number != ACCEPTED {
-        return write_refusal(text, answer.number);
+    let journey = match Journey::<Bits>::parse(policy, urls) {
+        Ok(journey) => journey,
+        Err(error) => return text.write_bytes(refusal(error)),
+    };
+    match journey.lowest_carrier() {
+        Some(connection) => text.write_number(connection as u32, b'\n'),
+        None => write_none(text, journey),
     }
-    if answer.connection == NO_CONNECTION {
-        return write_none(text, policy, urls);
-    }
-    write_number(text, 0, answer.connection, b'\n')
 }

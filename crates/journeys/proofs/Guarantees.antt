@@ -11,6 +11,9 @@ use Rattle.machine.specs.Policy.{policy_words, connections, well_formed}
 use Rattle.machine.specs.Machine.{policy_bad}
 use Rattle.journeys.specs.declared.Found.{Found}
 use Rattle.journeys.specs.Journey.{takes, carries, journey_bad, is_journey, journey_refusals, carrier, refused, told, found, fails_at}
+use Rattle.journeys.specs.declared.error.JourneyError.{JourneyError}
+use Rattle.journeys.specs.declared.error.JourneyError.TheVariants.{PolicyBad, JourneyBad, ConnectionUnknown}
+use Rattle.journeys.specs.Answers.{number_of}
 use Rattle.journeys.specs.Given.{Journey}
 use Rattle.journeys.specs.Guarantees.{Asked, LowestCarries, LowestIsTold, Fails, NoneIsTold, RefusedInOrder}
 
@@ -28,14 +31,28 @@ module _ (p urls : List ℕ) where
   unfolding found first_of branch
   journey_refused e f = rw (e, f)
 
+  -- by the number of what is refused, and by 0
+  pub found_refused : (e : JourneyError) → number_of e ≡ refusal → refused (number_of e) ≡ found p urls
+  unfolding found
+  found_refused PolicyBad e = rw (← e)
+  found_refused JourneyBad e = rw (← e)
+  found_refused ConnectionUnknown e = rw (← e)
+
+  pub found_told : (c : ℕ) → accepted ≡ refusal → c ≡ carrier p urls → told c ≡ found p urls
+  unfolding found
+  found_told c e f = rw (← e, f)
+
   found_number : (found p urls).number ≡ refusal
   unfolding found
   found_number = number_of_lem (λ (r : Found). r.number) (told (carrier p urls)) refused refusal refl refl
 
-  pub found_asked : (found p urls).number ≡ accepted → Asked p urls
-  found_asked e =
-      let (formed, (journey, _)) = none_applied (journey_refusals p urls) tt (sym found_number ∙ e) in
+  pub asked : refusal ≡ accepted → Asked p urls
+  asked e =
+      let (formed, (journey, _)) = none_applied (journey_refusals p urls) tt e in
       (passes (well_formed p) formed, passes (is_journey p urls) journey)
+
+  pub found_asked : (found p urls).number ≡ accepted → Asked p urls
+  found_asked e = asked (sym found_number ∙ e)
 
   pub asked_found : Asked p urls → found p urls ≡ told (carrier p urls)
   unfolding found

@@ -1,15 +1,19 @@
 -- Where a connection stops on a journey, by the first place that it does not take, and what is answered by what is refused. So the connection that is
 -- told is the lowest that does not stop.
-use Rattle.prelude.proofs.Kit.{ℕ, ◌≤◌, ◌<◌, arith, true, Bool, false, not, List, ◌≡◌, sym, ◌∙◌, refl, ap, subst, T, not_T, length, lt-ltb, le-ltb}
-use mir.Val.{bool_byte}
+use Rattle.prelude.proofs.Kit.{ℕ, ◌≤◌, ◌<◌, arith, true, Bool, false, not, List, ◌≡◌, sym, ◌∙◌, refl, ap, subst, T, T_not, not_T, length, lt-ltb, le-ltb}
+use Rattle.std.specs.Prelude.{cond, eqb, ltb, [], ◌∷◌}
 use Rattle.prelude.specs.Choice.{branch}
-use Rattle.prelude.specs.Refusals.{accepted, first_of}
-use Rattle.prelude.proofs.Choices.{is_true, is_false, as_digit}
+use Rattle.prelude.specs.Refusals.{accepted, refuse, first_of}
+use Rattle.prelude.proofs.Choices.{is_true, is_false}
+use Rattle.prelude.proofs.Refusals.{in_a_row, refused_on}
 use Rattle.prelude.proofs.Lowest.{lowest_most}
 use Rattle.machine.specs.Policy.{connections, well_formed}
 use Rattle.machine.specs.Machine.{policy_bad, Verdict}
 use Rattle.journeys.specs.declared.Stop.{Stop}
-use Rattle.journeys.specs.Journey.{url_at, judged, takes, carries, journey_bad, is_journey, fails_at, of_url_number, stop_at, no_stop, stop, connection_unknown, refused_stop, stopped}
+use Rattle.journeys.specs.Journey.{url_at, judged, takes, carries, journey_bad, is_journey, journey_refusals, fails_at, of_url_number, stop_at, no_stop, stop, connection_unknown, stop_refusals, refused_stop, stopped}
+use Rattle.journeys.specs.declared.error.JourneyError.{JourneyError}
+use Rattle.journeys.specs.declared.error.JourneyError.TheVariants.{PolicyBad, JourneyBad, ConnectionUnknown}
+use Rattle.journeys.specs.Answers.{number_of}
 use Rattle.journeys.specs.Guarantees.{Asked, StopsWhereItFails, LowestIsUnstopped, StoppedInOrder}
 use Rattle.journeys.proofs.Guarantees.{fails_where, not_taken_where, carries_none, lowest_is_told}
 
@@ -18,8 +22,8 @@ module _ (p urls : List ℕ) (c : ℕ) where
 
   -- by what the code has found there
   pub stop_is : (i u : ℕ) (v : Verdict) (b : Bool) → v ≡ judged p urls c i → u ≡ url_at p urls i → b ≡ of_url_number p c u v
-      → record { number = accepted; place = i; refusal = v.number; missing = v.missing; url = u; of_url = bool_byte b } ≡ stop_at p urls c i
-  stop_is i u v b e f g = rw (as_digit b, g, f, e)
+      → record { number = accepted; place = i; refusal = v.number; missing = v.missing; url = u; of_url = branch b 1 0 } ≡ stop_at p urls c i
+  stop_is i u v b e f g = rw (g, f, e)
 
   pub at_most : fails_at p urls c ≤ length urls
   unfolding fails_at
@@ -34,6 +38,10 @@ module _ (p urls : List ℕ) (c : ℕ) where
       go : (b : Bool) → carries p urls c ≡ b → carries p urls c ≡ true
       go true e = e
       go false e = absurd (omega (arith, l, fails_where p urls c (subst (λ (b : Bool). T (not b)) (sym e) tt)))
+
+  -- the place where it fails is not taken
+  pub taken_nowhere : (i : ℕ) → i ≡ fails_at p urls c → i < length urls → takes p urls c i ≡ true → ⊥
+  taken_nowhere i e l t = T_not (takes p urls c i) (rw e (not_taken_where p urls c (omega (arith, e, l)))) (subst T (sym t) tt)
 
   pub stop_failing : carries p urls c ≡ false → stop p urls c ≡ stop_at p urls c (fails_at p urls c)
   unfolding stop
@@ -62,6 +70,26 @@ module _ (p urls : List ℕ) (c : ℕ) where
   pub connection_stops : well_formed p ≡ true → is_journey p urls ≡ true → connections ≤ c → refused_stop connection_unknown ≡ stopped p urls c
   unfolding stopped first_of branch
   connection_stops e f l = rw (e, f, le-ltb c connections l)
+
+  -- by the number of what is refused of the policy and the journey
+  pub stopped_refused : (e : JourneyError) → number_of e ≡ first_of (journey_refusals p urls) accepted → refused_stop (number_of e) ≡ stopped p urls c
+  unfolding stopped
+  stopped_refused e h =
+      let first : first_of (stop_refusals p urls c) accepted ≡ number_of e =
+      in_a_row accepted (journey_refusals p urls) (refuse connection_unknown (not (ltb c connections)) ∷ [])
+      ∙ refused_on (λ n. n) (journey_refusals p urls) _ (λ z. other e (h ∙ z))
+      ∙ sym h in
+      rw first (told e)
+    where
+      other : (e : JourneyError) → number_of e ≡ accepted → ⊥
+      other PolicyBad q = omega (arith, q)
+      other JourneyBad q = omega (arith, q)
+      other ConnectionUnknown q = omega (arith, q)
+
+      told : (e : JourneyError) → refused_stop (number_of e) ≡ cond (eqb (number_of e) accepted) (stop p urls c) (refused_stop (number_of e))
+      told PolicyBad = refl
+      told JourneyBad = refl
+      told ConnectionUnknown = refl
 
   pub asked_stopped : Asked p urls → c < connections → stopped p urls c ≡ stop p urls c
   unfolding stopped first_of branch

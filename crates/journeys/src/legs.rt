@@ -1,83 +1,96 @@
 // The legs of a journey, a load and then redirects: whether the URL of each is there, and what the monitor's labels say of it.
-ghost use Rattle.std.specs.Prelude.{◌≡◌, true, ◌<◌, length};
+ghost use Rattle.std.specs.Prelude.{◌≡◌, ◌<◌, length, IfOk, is_ok};
+ghost use Rattle.prelude.specs.Refusals.{accepted, first_of};
 ghost use Rattle.machine.specs.Policy.{connections};
-ghost use Rattle.policy.specs.Given.{WellFormed};
-ghost use Rattle.journeys.specs.Journey.{is_journey, judged};
-ghost use Rattle.journeys.specs.Legs.{verdict, first_forbidden};
+ghost use Rattle.policy.specs.Given.{Url};
+ghost use Rattle.journeys.specs.Journey.{url_at, is_journey, judged, takes, journey_refusals};
+ghost use Rattle.journeys.specs.Legs.{verdict, permitted};
 ghost use Rattle.journeys.specs.Given.{Journey};
+ghost use Rattle.journeys.specs.Answers.{refusal_of};
 
-use super::{ACCEPTED, MOST_URLS};
-use policy::{
-    NONE_MISSING, fit_missing_reader, fit_missing_writer, is_url, redirect_missing_reader,
-    redirect_missing_writer, upgraded,
-};
-
-// The numbers by which readers and writers forbid a load or a redirect.
-pub const READERS_FORBID: u32 = 8;
-
-pub const WRITERS_FORBID: u32 = 9;
-
-// What labels say: 0, or the number that forbids it and the endpoint that is missing.
-#[derive(Clone, Copy)]
-pub struct Judged {
-    pub number: u32,
-    pub missing: u32,
-}
+use super::MOST_URLS;
+use super::error::JourneyError;
+use super::forbidden::Forbidden;
+use labels::EndpointSet;
+use policy::Policy;
+use std::alloc::AllocError;
 
 // One to 16 numbers, each of them of a URL.
-pub fn is_journey(policy: &[u32], urls: &[u8]) -> bool
-    requires { WellFormed policy.now }
-    ensures { result ≡ is_journey policy.now urls.now }
+#[tactic(auto, using(crate::proofs::Judging::no_urls, crate::proofs::Judging::too_many))]
+pub fn is_journey<S: EndpointSet>(policy: Policy<'_, S>, urls: &[u8]) -> bool
+    ensures { result ≡ is_journey policy.entry.words.now urls.now }
 {
-    if urls.len() == 0 {
+    if urls.is_empty() || MOST_URLS < urls.len() {
         return false;
     }
-    if MOST_URLS < urls.len() {
-        return false;
-    }
-    for place in 0..urls.len() {
-        if !is_url(policy, urls[place] as usize) {
-            return false;
-        }
-    }
-    true
+    urls.iter().all(|url| policy.is_url(usize::from(*url)))
 }
 
 // Of what is missing among readers and among writers the first tells.
-fn first_forbidden(reader: u32, writer: u32) -> Judged
-    ensures { verdict result ≡ first_forbidden reader writer }
+fn permit(reader: Option<u32>, writer: Option<u32>) -> Result<(), Forbidden>
+    ensures { verdict result ≡ permitted reader writer }
 {
-    if reader != NONE_MISSING {
-        return Judged {
-            number: READERS_FORBID,
-            missing: reader,
-        };
-    }
-    if writer != NONE_MISSING {
-        return Judged {
-            number: WRITERS_FORBID,
-            missing: writer,
-        };
-    }
-    Judged {
-        number: ACCEPTED,
-        missing: NONE_MISSING,
+    match (reader, writer) {
+        (Some(endpoint), _) => Err(Forbidden::Reader(endpoint)),
+        (None, Some(endpoint)) => Err(Forbidden::Writer(endpoint)),
+        (None, None) => Ok(()),
     }
 }
 
-// What labels say at a place of the journey: of a load at the first, and of a redirect at each further one.
-pub fn judge(policy: &[u32], connection: usize, urls: &[u8], place: usize) -> Judged
-    requires { Journey policy.now urls.now × (connection < connections) × (place < length urls.now) }
-    ensures { verdict result ≡ judged policy.now urls.now connection place }
-{
-    let named = urls[place] as usize;
-    let url = upgraded(policy, named);
-    if place == 0 {
-        let reader = fit_missing_reader(policy, connection, url);
-        let writer = fit_missing_writer(policy, connection, url);
-        return first_forbidden(reader, writer);
+// A policy that is well formed, and a journey under it: what 2 and 17 do not refuse, in memory that is lent.
+pub struct Journey<'a, S: EndpointSet> {
+    pub policy: Policy<'a, S>,
+    pub urls: &'a [u8],
+    pub ghost good: { Journey policy.words.now urls.now },
+}
+
+// By hand, since a derive does not go with a ghost field.
+impl<'a, S: EndpointSet> Clone for Journey<'a, S> {
+    fn clone(&self) -> Result<Self, AllocError> {
+        Ok(*self)
     }
-    let reader = redirect_missing_reader(policy, connection, url);
-    let writer = redirect_missing_writer(policy, connection, url);
-    first_forbidden(reader, writer)
+}
+
+impl<'a, S: EndpointSet> Copy for Journey<'a, S> {}
+
+impl<'a, S: EndpointSet> Journey<'a, S> {
+    #[tactic(auto, unfolding(prelude::specs::Refusals::first_of, prelude::specs::Choice::branch))]
+    pub fn parse(policy: &'a [u32], urls: &'a [u8]) -> Result<Self, JourneyError>
+        ensures refusal { refusal_of result ≡ first_of (journey_refusals policy.now urls.now) accepted }
+        ensures lent { IfOk result (λ j. (j.policy.words.now ≡ policy.now) × (j.urls.now ≡ urls.now)) }
+    {
+        let Some(policy) = Policy::parse(policy) else {
+            return Err(JourneyError::PolicyBad);
+        };
+        if !is_journey(policy, urls) {
+            return Err(JourneyError::JourneyBad);
+        }
+        Ok(Journey { policy, urls })
+    }
+
+    // The URL that is asked for at a place: the partner of a URL that has one.
+    pub(crate) fn url_at(self, place: usize) -> usize
+        requires { place < length self.urls.now }
+        ensures asked { result ≡ url_at self.entry.policy.words.now self.entry.urls.now place }
+        ensures there { Url self.entry.policy.words.now result }
+    {
+        self.policy.upgraded(usize::from(self.urls[place]))
+    }
+
+    // What labels say at a place of the journey: of a load at the first, and of a redirect at each further one.
+    pub fn judge(self, connection: usize, place: usize) -> Result<(), Forbidden>
+        requires { (connection < connections) × (place < length self.urls.now) }
+        ensures says { verdict result ≡ judged self.entry.policy.words.now self.entry.urls.now connection place }
+        ensures taken { is_ok result ≡ takes self.entry.policy.words.now self.entry.urls.now connection place }
+    {
+        let url = self.url_at(place);
+        if place == 0 {
+            let reader = self.policy.fit_missing_reader(connection, url);
+            let writer = self.policy.fit_missing_writer(connection, url);
+            return permit(reader, writer);
+        }
+        let reader = self.policy.redirect_missing_reader(connection, url);
+        let writer = self.policy.redirect_missing_writer(connection, url);
+        permit(reader, writer)
+    }
 }

@@ -2,18 +2,22 @@
 // one by a redirect. A connection is document 01's lane.
 #![tactic(auto)]
 
-ghost use Rattle.std.specs.Prelude.{◌≡◌};
-ghost use Rattle.journeys.specs.Journey.{refused, found, refused_stop, stopped};
+ghost use Rattle.std.specs.Prelude.{◌≡◌, ◌<◌, IfOk, IfSome};
+ghost use Rattle.machine.specs.Policy.{connections};
+ghost use Rattle.journeys.specs.Journey.{found, stopped};
+ghost use Rattle.journeys.specs.Answers.{found_by, stopped_by};
 
+pub mod error;
+pub mod failure;
+pub mod forbidden;
 pub mod legs;
 pub mod search;
 pub mod stops;
 
-use legs::is_journey;
-use policy::check::well_formed;
+use error::JourneyError;
+use labels::Bits;
+use legs::Journey;
 use policy::words::CONNECTIONS;
-use search::lowest_carrier;
-use stops::first_stop;
 
 // The number of a journey that nothing refuses.
 pub const ACCEPTED: u32 = 0;
@@ -41,13 +45,12 @@ pub struct Found {
     pub connection: u32,
 }
 
-fn refused(number: u32) -> Found
-    ensures { result ≡ refused number }
+fn find(policy: &[u32], urls: &[u8]) -> Result<Option<usize>, JourneyError>
+    ensures found { found_by result ≡ found policy.now urls.now }
+    ensures one { IfOk result (λ carrier. IfSome carrier (λ c. c < connections)) }
 {
-    Found {
-        number,
-        connection: 0,
-    }
+    let journey = Journey::<Bits>::parse(policy, urls)?;
+    Ok(journey.lowest_carrier())
 }
 
 // Tells the lowest connection that carries a journey: include/journeys.h. Every length and content is answered.
@@ -55,15 +58,19 @@ fn refused(number: u32) -> Found
 pub extern "C" fn journey_find(policy: &[u32], urls: &[u8]) -> Found
     ensures { result ≡ found policy.now urls.now }
 {
-    if !well_formed(policy) {
-        return refused(POLICY_BAD);
-    }
-    if !is_journey(policy, urls) {
-        return refused(JOURNEY_BAD);
-    }
-    Found {
-        number: ACCEPTED,
-        connection: lowest_carrier(policy, urls) as u32,
+    match find(policy, urls) {
+        Ok(Some(connection)) => Found {
+            number: ACCEPTED,
+            connection: connection as u32,
+        },
+        Ok(None) => Found {
+            number: ACCEPTED,
+            connection: NO_CONNECTION,
+        },
+        Err(error) => Found {
+            number: error.number(),
+            connection: 0,
+        },
     }
 }
 
@@ -81,17 +88,14 @@ pub struct Stop {
     pub of_url: u32,
 }
 
-fn refused_stop(number: u32) -> Stop
-    ensures { result ≡ refused_stop number }
+fn find_stop(policy: &[u32], urls: &[u8], connection: u32) -> Result<Stop, JourneyError>
+    ensures { stopped_by result ≡ stopped policy.now urls.now connection }
 {
-    Stop {
-        number,
-        place: 0,
-        refusal: 0,
-        missing: 0,
-        url: 0,
-        of_url: 0,
+    let journey = Journey::<Bits>::parse(policy, urls)?;
+    if NO_CONNECTION <= connection {
+        return Err(JourneyError::ConnectionUnknown);
     }
+    Ok(journey.stop(connection as usize))
 }
 
 // Tells where and why a connection stops on a journey: include/journeys.h. Every length, content and number is answered.
@@ -99,14 +103,15 @@ fn refused_stop(number: u32) -> Stop
 pub extern "C" fn journey_stop(policy: &[u32], urls: &[u8], connection: u32) -> Stop
     ensures { result ≡ stopped policy.now urls.now connection }
 {
-    if !well_formed(policy) {
-        return refused_stop(POLICY_BAD);
+    match find_stop(policy, urls, connection) {
+        Ok(stop) => stop,
+        Err(error) => Stop {
+            number: error.number(),
+            place: 0,
+            refusal: 0,
+            missing: 0,
+            url: 0,
+            of_url: 0,
+        },
     }
-    if !is_journey(policy, urls) {
-        return refused_stop(JOURNEY_BAD);
-    }
-    if NO_CONNECTION <= connection {
-        return refused_stop(CONNECTION_UNKNOWN);
-    }
-    first_stop(policy, connection as usize, urls)
 }

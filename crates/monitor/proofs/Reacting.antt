@@ -5,7 +5,7 @@ use Rattle.prelude.specs.Choice.{branch}
 use Rattle.prelude.specs.Refusals.{accepted, first_of}
 use Rattle.records.specs.declared.errors.DecodeError.{DecodeError}
 use Rattle.records.specs.Results.{decode_number}
-use Rattle.records.specs.declared.errors.DecodeError.TheVariants.{UnknownKind, EmptyKeyMap, WrongLength}
+use Rattle.records.specs.declared.errors.DecodeError.TheVariants.{KindUnknown, KeyMapEmpty, CutOrTooLong}
 use Rattle.machine.specs.Session.{free, packed, set_connection, request, send}
 use Rattle.machine.specs.Scripts.{script_at, step_at, step_limit, starting_with, run_from, stopped, run_script}
 use Rattle.machine.specs.Machine.{Event, plain, named, awaited, label_refusals, event_refusals, receive, perform, Fed}
@@ -30,9 +30,9 @@ some_number OutputShort = refl
 some_number PolicyBad = refl
 some_number ScriptsBad = refl
 some_number StateUnsound = refl
-some_number (Malformed UnknownKind) = refl
-some_number (Malformed EmptyKeyMap) = refl
-some_number (Malformed WrongLength) = refl
+some_number (Malformed KindUnknown) = refl
+some_number (Malformed KeyMapEmpty) = refl
+some_number (Malformed CutOrTooLong) = refl
 some_number NameUnknown = refl
 some_number NotAwaited = refl
 some_number (ReadersForbid endpoint) = refl
@@ -40,9 +40,9 @@ some_number (WritersForbid endpoint) = refl
 
 -- nor has a fault of a record
 pub some_fault : (e : DecodeError) → decode_number e ≡ accepted → ⊥
-some_fault UnknownKind z = absurd (omega arith)
-some_fault EmptyKeyMap z = absurd (omega arith)
-some_fault WrongLength z = absurd (omega arith)
+some_fault KindUnknown z = absurd (omega arith)
+some_fault KeyMapEmpty z = absurd (omega arith)
+some_fault CutOrTooLong z = absurd (omega arith)
 
 module _ (p scripts s out : List ℕ) (e : Event) where
   pub unnamed : named p e ≡ false → fed (Err NameUnknown) s out ≡ reaction p scripts s e out

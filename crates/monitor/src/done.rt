@@ -3,7 +3,7 @@ ghost use Rattle.std.specs.Prelude.{◌≡◌};
 
 use session::Output;
 
-/// The bytes of requests that it wrote, and the script steps that it ran.
+// The bytes of requests that it wrote, and the script steps that it ran.
 #[derive(Clone, Copy, Debug, PartialEq, Eq)]
 pub struct Done {
     pub bytes: usize,

@@ -149,8 +149,8 @@ fn waiting<S: EndpointSet>(session: &Session<'_, S>, from: Record, what: Arrived
     }
 }
 
-#[tactic(auto, unfolding(prelude::specs::Refusals::first_of, prelude::specs::Choice::branch))]
 // What labels forbid of a redirect's target; of a response they forbid nothing.
+#[tactic(auto, unfolding(prelude::specs::Refusals::first_of, prelude::specs::Choice::branch))]
 fn permit_target<S: EndpointSet>(
     policy: Policy<'_, S>,
     connection: usize,

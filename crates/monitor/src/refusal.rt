@@ -8,24 +8,7 @@ ghost use Rattle.monitor.specs.declared.refusal.Refusal.TheVariants as refusals;
 
 use records::DecodeError;
 
-// The number of each; those of a malformed record are decoding's own.
-pub const OUTPUT_SHORT: u32 = 1;
-
-pub const POLICY_BAD: u32 = 2;
-
-pub const SCRIPTS_BAD: u32 = 3;
-
-pub const STATE_UNSOUND: u32 = 4;
-
-pub const NAME_UNKNOWN: u32 = 6;
-
-pub const NOT_AWAITED: u32 = 7;
-
-pub const READERS_FORBID: u32 = 8;
-
-pub const WRITERS_FORBID: u32 = 9;
-
-/// The refusals, in the order of their tests. Where readers or writers forbid it, the endpoint that is missing.
+// The refusals, in the order of their tests. Where readers or writers forbid it, the endpoint that is missing.
 #[derive(Clone, Copy, Debug, PartialEq, Eq)]
 pub enum Refusal {
     OutputShort,
@@ -44,19 +27,19 @@ impl Refusal {
         ensures { result ≡ number_of self }
     {
         match self {
-            Refusal::OutputShort => OUTPUT_SHORT,
-            Refusal::PolicyBad => POLICY_BAD,
-            Refusal::ScriptsBad => SCRIPTS_BAD,
-            Refusal::StateUnsound => STATE_UNSOUND,
+            Refusal::OutputShort => 1,
+            Refusal::PolicyBad => 2,
+            Refusal::ScriptsBad => 3,
+            Refusal::StateUnsound => 4,
             Refusal::Malformed(error) => error.number(),
-            Refusal::NameUnknown => NAME_UNKNOWN,
-            Refusal::NotAwaited => NOT_AWAITED,
-            Refusal::ReadersForbid(_) => READERS_FORBID,
-            Refusal::WritersForbid(_) => WRITERS_FORBID,
+            Refusal::NameUnknown => 6,
+            Refusal::NotAwaited => 7,
+            Refusal::ReadersForbid(_) => 8,
+            Refusal::WritersForbid(_) => 9,
         }
     }
 
-    /// The endpoint that is missing.
+    // The endpoint that is missing.
     pub fn missing(self) -> Option<u32>
         ensures { result ≡ missing_of self }
     {

@@ -29,8 +29,8 @@ fn plain_map(map: u8) -> u8
     map - WITH_COOKIES * (map / WITH_COOKIES % 2)
 }
 
-#[tactic(auto, unfolding(machine::specs::Machine::arrived_of, prelude::specs::Choice::branch))]
 // What a record that is no load tells of.
+#[tactic(auto, unfolding(machine::specs::Machine::arrived_of, prelude::specs::Choice::branch))]
 fn arrived_of<S: EndpointSet>(policy: Policy<'_, S>, fields: Record) -> Arrived
     ensures { told result ≡ arrived_of policy.entry.words.now fields }
 {

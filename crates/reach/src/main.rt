@@ -2,13 +2,14 @@
 #![tactic(auto)]
 
 ghost use Rattle.std.specs.Prelude.{◌≡◌, ◌≤◌, length};
-ghost use Rattle.text.specs.Text.{AtFront};
+ghost use Rattle.text.specs.Writing.{HasRoom, Writes};
 ghost use Rattle.reach.specs.Report.{report_room, printed};
 
 mod report;
 
 use report::{REPORT_BYTES, write_report};
 use std::io;
+use text::Writer;
 use transcript::{POLICY_INPUT_ROOM, read_policy};
 
 fn main(rt: HostRuntime) -> io::Result<()> {
@@ -18,19 +19,22 @@ fn main(rt: HostRuntime) -> io::Result<()> {
 }
 
 fn tell(rt: &HostRuntime, input: &[u8]) -> io::Result<()> {
-    let mut text = [0u8; REPORT_BYTES];
-    let end = write_reach(&mut text, input);
-    print(rt, input, &text[..end])
+    let mut room = [0u8; REPORT_BYTES];
+    let mut text = Writer::new(&mut room);
+    write_reach(&mut text, input);
+    print(rt, input, text.written())
 }
 
-// All that is printed of an input.
-fn write_reach(text: &mut [u8], input: &[u8]) -> usize
-    requires { report_room ≤ length text.old }
-    ensures { AtFront (printed input.now) text.old text.new result }
+// All that is printed of an input; one that is no policy is told as the policy without words is.
+fn write_reach(text: &mut Writer<'_>, input: &[u8])
+    requires { HasRoom text.old report_room }
+    ensures { Writes text.old (printed input.now) text.new }
 {
-    let policy = read_policy(input);
-    let words = policy.words;
-    write_report(text, reach_table::reach_count(&words[..policy.count]))
+    let table = match read_policy(input) {
+        Some(words) => reach_table::reach_count(&words),
+        None => reach_table::reach_count(&[]),
+    };
+    write_report(text, &table);
 }
 
 // The only write: what goes out is all that is printed of the input, and nothing else.

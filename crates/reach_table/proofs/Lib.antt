@@ -1,3 +1,4 @@
+pub mod Counting
 pub mod Reaching
 pub mod Guarantees
 pub mod Loading

@@ -1,10 +1,10 @@
 -- What a connection reaches, by the tests that code makes; and what is answered, by whether the policy is well formed.
-use Rattle.prelude.proofs.Kit.{ℕ, ◌≤◌, ◌<◌, true, false, not, List, map, ◌≡◌, sym, ◌∙◌, ap, zero-add, T, length, get_or}
+use Rattle.prelude.proofs.Kit.{ℕ, ◌≤◌, ◌<◌, true, false, not, List, map, ◌≡◌, sym, ◌∙◌, ap, zero-add, T, get_or}
 use Rattle.prelude.specs.Lists.{numbers}
 use Rattle.prelude.specs.Refusals.{accepted}
 use Rattle.prelude.specs.Sums.{sum_below, count_below}
 use Rattle.prelude.proofs.Choices.{branch_true, branch_false}
-use Rattle.prelude.proofs.Lists.{map_at, map_long}
+use Rattle.prelude.proofs.Lists.{map_at}
 use Rattle.prelude.proofs.Sums.{count_most, sum_same}
 use Rattle.machine.specs.Policy.{url_rows, connections, is_connection, is_url, well_formed, fits}
 use Rattle.machine.specs.Machine.{policy_bad}
@@ -12,10 +12,6 @@ use Rattle.reach_table.specs.Reach.{reaches, reach, total_reach, table, refused,
 
 module _ (p : List ℕ) where
   module _ (n u : ℕ) where
-    pub no_url : is_url p u ≡ false → false ≡ reaches p n u
-    unfolding reaches
-    no_url e = rw e
-
     pub url_reached : is_url p u ≡ true → fits p n u ≡ reaches p n u
     unfolding reaches
     url_reached e = rw e
@@ -31,9 +27,6 @@ module _ (p : List ℕ) where
   -- the counts, in their list
   pub count_at : (n : ℕ) → n < connections → get_or (map (reach p) (numbers 0 connections)) n 0 ≡ reach p n
   count_at n l = map_at (reach p) connections 0 n l ∙ ap (reach p) (zero-add n)
-
-  pub counts_long : length (map (reach p) (numbers 0 connections)) ≡ connections
-  counts_long = map_long (reach p) connections 0
 
   total_of : sum_below connections (λ n. get_or (map (reach p) (numbers 0 connections)) n 0) ≡ total_reach p
   unfolding total_reach
@@ -61,10 +54,6 @@ module _ (p : List ℕ) where
     pub cell_refused : well_formed p ≡ false → false ≡ in_table p n u
     unfolding in_table
     cell_refused e = rw e
-
-    pub cell_nowhere : well_formed p ≡ true → is_connection n ≡ false → false ≡ in_table p n u
-    unfolding in_table
-    cell_nowhere e f = rw (e, f)
 
     pub cell_reached : well_formed p ≡ true → is_connection n ≡ true → reaches p n u ≡ in_table p n u
     unfolding in_table

@@ -6,12 +6,12 @@ ghost use Rattle.std.specs.Prelude.{◌≡◌, map, ◌<◌, ◌≤◌, length, 
 ghost use Rattle.prelude.specs.Lists.{numbers};
 ghost use Rattle.prelude.specs.Sums.{sum_below};
 ghost use Rattle.machine.specs.Policy.{url_rows, connections};
-ghost use Rattle.policy.specs.Given.{WellFormed};
-ghost use Rattle.reach_table.specs.Reach.{reaches, reach, refused, tabled, in_table};
+ghost use Rattle.reach_table.specs.Reach.{reaches, reach, tabled, in_table};
 
-use policy::check::well_formed;
+use labels::{Bits, EndpointSet};
+use policy::Policy;
 use policy::words::{CONNECTIONS, URL_ROWS};
-use policy::{fits, is_url};
+use std::array;
 
 // The number of a policy that is not refused.
 pub const ACCEPTED: u32 = 0;
@@ -28,59 +28,36 @@ pub struct ReachTable {
     pub all: u32,
 }
 
-fn refused(number: u32) -> ReachTable
-    ensures { result ≡ refused number }
-{
-    ReachTable {
-        number,
-        urls: [0; CONNECTIONS],
-        all: 0,
-    }
-}
-
 // Whether a row is not empty and a connection fits it, as it stands.
-fn reaches(policy: &[u32], connection: usize, url: usize) -> bool
-    requires { WellFormed policy.now × (connection < connections) }
-    ensures { result ≡ reaches policy.now connection url }
+#[tactic(auto, unfolding(crate::specs::Reach::reaches))]
+fn reaches<S: EndpointSet>(policy: Policy<'_, S>, connection: usize, url: usize) -> bool
+    requires { connection < connections }
+    ensures { result ≡ reaches policy.entry.words.now connection url }
 {
-    if is_url(policy, url) {
-        return fits(policy, connection, url);
-    }
-    false
+    policy.is_url(url) && policy.fits(connection, url)
 }
 
-fn reach(policy: &[u32], connection: usize) -> u32
-    requires { WellFormed policy.now × (connection < connections) }
-    ensures { result ≡ reach policy.now connection }
+fn reach<S: EndpointSet>(policy: Policy<'_, S>, connection: usize) -> u32
+    requires { connection < connections }
+    ensures { result ≡ reach policy.entry.words.now connection }
 {
-    let mut count = 0u32;
-    for url in 0..URL_ROWS {
-        count = count + reaches(policy, connection, url) as u32;
-    }
-    count
+    (0..URL_ROWS)
+        .map(|url| u32::from(reaches(policy, connection, url)))
+        .sum()
 }
 
-fn reach_of_each(policy: &[u32]) -> [u32; CONNECTIONS]
-    requires { WellFormed policy.now }
-    ensures { result ≡ map (reach policy.now) (numbers 0 connections) }
+fn reach_of_each<S: EndpointSet>(policy: Policy<'_, S>) -> [u32; CONNECTIONS]
+    ensures { result ≡ map (reach policy.entry.words.now) (numbers 0 connections) }
 {
-    let mut urls = [0u32; CONNECTIONS];
-    for connection in 0..CONNECTIONS {
-        urls[connection] = reach(policy, connection);
-    }
-    urls
+    array::from_fn(|connection| reach(policy, connection))
 }
 
 // The sum of the counts, none of which is above the number of rows.
-fn total(urls: &[u32]) -> u32
-    requires { (length urls.now ≡ connections) × ((n : _) → n < connections → get_or urls.now n 0 ≤ url_rows) }
+fn total(urls: &[u32; CONNECTIONS]) -> u32
+    requires { (n : _) → n < connections → get_or urls.now n 0 ≤ url_rows }
     ensures { result ≡ sum_below connections (λ n. get_or urls.now n 0) }
 {
-    let mut all = 0u32;
-    for connection in 0..urls.len() {
-        all = all + urls[connection];
-    }
-    all
+    urls.iter().sum()
 }
 
 // Counts the URLs that each connection of a policy reaches: include/reach_table.h. Every length and content is answered.
@@ -88,9 +65,13 @@ fn total(urls: &[u32]) -> u32
 pub extern "C" fn reach_count(policy: &[u32]) -> ReachTable
     ensures { result ≡ tabled policy.now }
 {
-    if !well_formed(policy) {
-        return refused(POLICY_BAD);
-    }
+    let Some(policy) = Policy::<Bits>::parse(policy) else {
+        return ReachTable {
+            number: POLICY_BAD,
+            urls: [0; CONNECTIONS],
+            all: 0,
+        };
+    };
     let urls = reach_of_each(policy);
     let all = total(&urls);
     ReachTable {
@@ -102,14 +83,12 @@ pub extern "C" fn reach_count(policy: &[u32]) -> ReachTable
 
 // Whether a URL is counted for a connection. Every length, content and number is answered.
 #[unsafe(no_mangle)]
+#[tactic(auto, unfolding(crate::specs::Reach::in_table))]
 pub extern "C" fn reach_fits(policy: &[u32], connection: u32, url: u32) -> bool
     ensures { result ≡ in_table policy.now connection url }
 {
-    if !well_formed(policy) {
+    let Some(policy) = Policy::<Bits>::parse(policy) else {
         return false;
-    }
-    if CONNECTIONS <= connection as usize {
-        return false;
-    }
-    reaches(policy, connection as usize, url as usize)
+    };
+    (connection as usize) < CONNECTIONS && reaches(policy, connection as usize, url as usize)
 }

@@ -72,9 +72,9 @@ fn counts_of(direction: Direction, map: u8, length: usize) -> Counts
         match written_back(direction, &bytes[..length]) {
             Ok(true) => counts.accepted += 1,
             Ok(false) => {}
-            Err(DecodeError::UnknownKind) => counts.kind += 1,
-            Err(DecodeError::EmptyKeyMap) => counts.keys += 1,
-            Err(DecodeError::WrongLength) => counts.length += 1,
+            Err(DecodeError::KindUnknown) => counts.kind += 1,
+            Err(DecodeError::KeyMapEmpty) => counts.keys += 1,
+            Err(DecodeError::CutOrTooLong) => counts.length += 1,
         }
     }
     counts

@@ -14,7 +14,7 @@ use Rattle.records.specs.declared.Direction.{Direction}
 use Rattle.records.specs.declared.Direction.TheVariants.{Input, Request}
 use Rattle.records.specs.declared.Record.{Record}
 use Rattle.records.specs.declared.errors.DecodeError.{DecodeError}
-use Rattle.records.specs.declared.errors.DecodeError.TheVariants.{UnknownKind, EmptyKeyMap, WrongLength}
+use Rattle.records.specs.declared.errors.DecodeError.TheVariants.{KindUnknown, KeyMapEmpty, CutOrTooLong}
 use Rattle.records.specs.Bytes.{bit, number}
 use Rattle.records.specs.Layout.{cookies_bit, maps, start, key_map_at, widths, sum, split, from_values, size}
 use Rattle.records.specs.Answers.{Decoded, First}
@@ -166,19 +166,19 @@ module _ (m : ℕ) (rest : List ℕ) where
   unfolding keyed_at
   keyed_there l e = rw (field_there (bit m cookies_bit) at_keys l, e)
 
-  keyed_empty : bit m cookies_bit ≤ length at_keys → no_key_set m keys ≡ true → keyed_at m at_keys ≡ Err EmptyKeyMap
+  keyed_empty : bit m cookies_bit ≤ length at_keys → no_key_set m keys ≡ true → keyed_at m at_keys ≡ Err KeyMapEmpty
   unfolding keyed_at
   keyed_empty l e = rw (field_there (bit m cookies_bit) at_keys l, e)
 
-  keyed_gone : length at_keys < bit m cookies_bit → keyed_at m at_keys ≡ Err WrongLength
+  keyed_gone : length at_keys < bit m cookies_bit → keyed_at m at_keys ≡ Err CutOrTooLong
   unfolding keyed_at
   keyed_gone l = rw (field_gone (bit m cookies_bit) at_keys l)
 
-  fields_empty : 2 + bit m cookies_bit ≤ length rest → no_key_set m keys ≡ true → fields_at m rest ≡ Err EmptyKeyMap
+  fields_empty : 2 + bit m cookies_bit ≤ length rest → no_key_set m keys ≡ true → fields_at m rest ≡ Err KeyMapEmpty
   unfolding fields_at
   fields_empty l e = rw (there 2 rest (omega arith), keyed_empty (simp length-drop (omega arith)) e)
 
-  fields_cut : length rest < total → (bit m cookies_bit ≤ length at_keys → no_key_set m keys ≡ false) → fields_at m rest ≡ Err WrongLength
+  fields_cut : length rest < total → (bit m cookies_bit ≤ length at_keys → no_key_set m keys ≡ false) → fields_at m rest ≡ Err CutOrTooLong
   unfolding fields_at
   fields_cut l keyed =
       elim (cases_lt (length rest) 2) [
@@ -331,9 +331,9 @@ abbrev pub whole_of : ℕ → First → Decoded
 whole_of n f = cond (eqb f.number accepted) (cond (eqb f.length n) (record { number = accepted; fields = f.fields }) (refused cut_or_too_long)) (record { number = f.number; fields = f.fields })
 
 pub error_whole : (n : ℕ) (e : DecodeError) → whole_of n (first_as (Err e)) ≡ refused (decode_number e)
-error_whole n UnknownKind = refl
-error_whole n EmptyKeyMap = refl
-error_whole n WrongLength = refl
+error_whole n KindUnknown = refl
+error_whole n KeyMapEmpty = refl
+error_whole n CutOrTooLong = refl
 
 -- ---- the four cases
 
@@ -387,7 +387,7 @@ module _ (d : Direction) (bytes : List ℕ) where
 
   -- ---- what reading answers
 
-  read_unknown : map_unknown d bytes ≡ true → record_at d bytes ≡ Err UnknownKind
+  read_unknown : map_unknown d bytes ≡ true → record_at d bytes ≡ Err KindUnknown
   unfolding record_at
   read_unknown e = rw e
 
@@ -409,11 +409,11 @@ module _ (d : Direction) (bytes : List ℕ) where
     abbrev front : (bit (map_of bytes) 0 ≡ 1) × (bit (map_of bytes) 1 ≡ 1)
     front = has_front d (map_of bytes) known.1
 
-    read_keyless : keys_zero bytes ≡ true → record_at d bytes ≡ Err EmptyKeyMap
+    read_keyless : keys_zero bytes ≡ true → record_at d bytes ≡ Err KeyMapEmpty
     read_keyless f = let at = key_zero bytes front f in read_known ∙ fields_empty (map_of bytes) (drop 1 bytes) at.0 at.1
 
     module _ (f : keys_zero bytes ≡ false) where
-      read_cut : length bytes < called bytes → record_at d bytes ≡ Err WrongLength
+      read_cut : length bytes < called bytes → record_at d bytes ≡ Err CutOrTooLong
       read_cut l = read_known ∙ fields_cut (map_of bytes) (drop 1 bytes) (omega (arith, some, totals bytes front, length-drop 1 bytes)) (key_set bytes front f)
 
       module _ (l : called bytes ≤ length bytes) where

@@ -2,10 +2,10 @@
 use Rattle.prelude.proofs.Kit.{arith, ◌≡◌}
 use Rattle.prelude.specs.Refusals.{accepted}
 use Rattle.records.specs.declared.errors.DecodeError.{DecodeError}
-use Rattle.records.specs.declared.errors.DecodeError.TheVariants.{UnknownKind, EmptyKeyMap, WrongLength}
+use Rattle.records.specs.declared.errors.DecodeError.TheVariants.{KindUnknown, KeyMapEmpty, CutOrTooLong}
 use Rattle.records.specs.Results.{decode_number}
 
 pub error_refused : (e : DecodeError) → decode_number e ≡ accepted → ⊥
-error_refused UnknownKind h = omega (arith, h)
-error_refused EmptyKeyMap h = omega (arith, h)
-error_refused WrongLength h = omega (arith, h)
+error_refused KindUnknown h = omega (arith, h)
+error_refused KeyMapEmpty h = omega (arith, h)
+error_refused CutOrTooLong h = omega (arith, h)

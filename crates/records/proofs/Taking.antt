@@ -1,7 +1,7 @@
 -- What a reader answers to a field: it is there, or the record is cut.
 use Rattle.prelude.proofs.Kit.{ℕ, ◌<◌, ◌≤◌, List, ◌≡◌, sym, refl, lt-ltb, le-ltb, length, take, drop, length-take-le, zero-le, eqb, Bool, true, false}
 use Rattle.std.specs.Prelude.{Ok, Err, replicate}
-use Rattle.records.specs.declared.errors.DecodeError.TheVariants.{WrongLength}
+use Rattle.records.specs.declared.errors.DecodeError.TheVariants.{CutOrTooLong}
 use Rattle.records.specs.Bytes.{number}
 use Rattle.records.specs.Layout.{sum, split, widths}
 use Rattle.records.specs.Places.{cookie_widths}
@@ -11,7 +11,7 @@ pub there : (n : ℕ) (bytes : List ℕ) → n ≤ length bytes → bytes_at n b
 unfolding bytes_at
 there n bytes l = rw (le-ltb (length bytes) n l)
 
-pub gone : (n : ℕ) (bytes : List ℕ) → length bytes < n → bytes_at n bytes ≡ Err WrongLength
+pub gone : (n : ℕ) (bytes : List ℕ) → length bytes < n → bytes_at n bytes ≡ Err CutOrTooLong
 unfolding bytes_at
 gone n bytes l = rw (lt-ltb (length bytes) n l)
 
@@ -19,7 +19,7 @@ pub field_there : (n : ℕ) (bytes : List ℕ) → n ≤ length bytes → field_
 unfolding field_at
 field_there n bytes l = rw (there n bytes l)
 
-pub field_gone : (n : ℕ) (bytes : List ℕ) → length bytes < n → field_at n bytes ≡ Err WrongLength
+pub field_gone : (n : ℕ) (bytes : List ℕ) → length bytes < n → field_at n bytes ≡ Err CutOrTooLong
 unfolding field_at
 field_gone n bytes l = rw (gone n bytes l)
 
@@ -28,7 +28,7 @@ pub cookies_there : (keys : ℕ) (bytes : List ℕ) → sum (cookie_widths keys)
 unfolding cookies_at
 cookies_there keys bytes l = rw (there (sum (cookie_widths keys)) bytes l)
 
-pub cookies_gone : (keys : ℕ) (bytes : List ℕ) → length bytes < sum (cookie_widths keys) → cookies_at keys bytes ≡ Err WrongLength
+pub cookies_gone : (keys : ℕ) (bytes : List ℕ) → length bytes < sum (cookie_widths keys) → cookies_at keys bytes ≡ Err CutOrTooLong
 unfolding cookies_at
 cookies_gone keys bytes l = rw (gone (sum (cookie_widths keys)) bytes l)
 

@@ -3,7 +3,7 @@ use Rattle.std.specs.Prelude.{ℕ, ◌*◌, ◌≤◌, Bool, true, false, cond, 
 use Rattle.records.specs.declared.Direction.{Direction}
 use Rattle.records.specs.declared.Record.{Record}
 use Rattle.records.specs.declared.errors.DecodeError.{DecodeError}
-use Rattle.records.specs.declared.errors.DecodeError.TheVariants.{UnknownKind, EmptyKeyMap, WrongLength}
+use Rattle.records.specs.declared.errors.DecodeError.TheVariants.{KindUnknown, KeyMapEmpty, CutOrTooLong}
 use Rattle.records.specs.Bytes.{bit, number}
 use Rattle.records.specs.Layout.{cookies_bit, sum, split}
 use Rattle.records.specs.Codec.{no_key_set, map_of, map_unknown}
@@ -32,7 +32,7 @@ on false = 0
 
 -- the next n bytes
 unfoldable pub bytes_at : ℕ → List ℕ → Result (List ℕ × List ℕ) DecodeError
-bytes_at n bytes = cond (ltb (length bytes) n) (Err WrongLength) (Ok (take n bytes, drop n bytes))
+bytes_at n bytes = cond (ltb (length bytes) n) (Err CutOrTooLong) (Ok (take n bytes, drop n bytes))
 
 -- the number of the next n bytes
 unfoldable pub field_at : ℕ → List ℕ → Result (ℕ × List ℕ) DecodeError
@@ -46,7 +46,7 @@ cookies_at keys bytes = bytes_at (sum (cookie_widths keys)) bytes >>= λ field. 
 unfoldable pub keyed_at : ℕ → List ℕ → Result (ℕ × List ℕ) DecodeError
 keyed_at map bytes = do
   keys ← field_at (bit map cookies_bit) bytes
-  cond (no_key_set map keys.0) (Err EmptyKeyMap) (Ok keys)
+  cond (no_key_set map keys.0) (Err KeyMapEmpty) (Ok keys)
 
 -- the fields of a record whose map is known: each carries a URL and a connection
 unfoldable pub fields_at : ℕ → List ℕ → Result (Record × List ℕ) DecodeError
@@ -72,4 +72,4 @@ fields_at map bytes = do
   )
 
 unfoldable pub record_at : Direction → List ℕ → Result (Record × List ℕ) DecodeError
-record_at d bytes = cond (map_unknown d bytes) (Err UnknownKind) (fields_at (map_of bytes) (drop 1 bytes))
+record_at d bytes = cond (map_unknown d bytes) (Err KindUnknown) (fields_at (map_of bytes) (drop 1 bytes))

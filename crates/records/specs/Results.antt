@@ -4,16 +4,16 @@ use Rattle.prelude.specs.Refusals.{accepted}
 use Rattle.records.specs.declared.Record.{Record}
 use Rattle.records.specs.declared.First.{First as FirstRead}
 use Rattle.records.specs.declared.errors.DecodeError.{DecodeError}
-use Rattle.records.specs.declared.errors.DecodeError.TheVariants.{UnknownKind, EmptyKeyMap, WrongLength}
+use Rattle.records.specs.declared.errors.DecodeError.TheVariants.{KindUnknown, KeyMapEmpty, CutOrTooLong}
 use Rattle.records.specs.declared.errors.EncodeError.{EncodeError}
 use Rattle.records.specs.declared.errors.EncodeError.TheVariants.{NoRoom, NotCarriable}
 use Rattle.records.specs.Answers.{Decoded, Encoded, First}
 use Rattle.records.specs.Codec.{no_room, not_carriable, kind_unknown, key_map_empty, cut_or_too_long, refused, first}
 
 abbrev pub decode_number : DecodeError → ℕ
-decode_number UnknownKind = kind_unknown
-decode_number EmptyKeyMap = key_map_empty
-decode_number WrongLength = cut_or_too_long
+decode_number KindUnknown = kind_unknown
+decode_number KeyMapEmpty = key_map_empty
+decode_number CutOrTooLong = cut_or_too_long
 
 abbrev pub encode_number : EncodeError → ℕ
 encode_number NoRoom = no_room

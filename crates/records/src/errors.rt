@@ -2,17 +2,15 @@
 ghost use Rattle.std.specs.Prelude.{◌≡◌};
 ghost use Rattle.records.specs.Results.{decode_number, encode_number};
 
-use super::{CUT_OR_TOO_LONG, KEY_MAP_EMPTY, KIND_UNKNOWN, NO_ROOM, NOT_CARRIABLE};
-
 // Why bytes are no record.
 #[derive(Clone, Copy, Debug, PartialEq, Eq)]
 pub enum DecodeError {
     // They are empty, or the direction does not have their map.
-    UnknownKind,
+    KindUnknown,
     // Cookies are carried, and the key map byte is there and zero.
-    EmptyKeyMap,
+    KeyMapEmpty,
     // There are not as many as the maps call for.
-    WrongLength,
+    CutOrTooLong,
 }
 
 impl DecodeError {
@@ -20,9 +18,9 @@ impl DecodeError {
         ensures { result ≡ decode_number self }
     {
         match self {
-            DecodeError::UnknownKind => KIND_UNKNOWN,
-            DecodeError::EmptyKeyMap => KEY_MAP_EMPTY,
-            DecodeError::WrongLength => CUT_OR_TOO_LONG,
+            DecodeError::KindUnknown => 10,
+            DecodeError::KeyMapEmpty => 12,
+            DecodeError::CutOrTooLong => 11,
         }
     }
 }
@@ -41,8 +39,8 @@ impl EncodeError {
         ensures { result ≡ encode_number self }
     {
         match self {
-            EncodeError::NoRoom => NO_ROOM,
-            EncodeError::NotCarriable => NOT_CARRIABLE,
+            EncodeError::NoRoom => 1,
+            EncodeError::NotCarriable => 5,
         }
     }
 }

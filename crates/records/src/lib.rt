@@ -19,19 +19,8 @@ pub use layout::count_keys;
 use reading::Reader;
 use writing::Writer;
 
-// The numbers of what is accepted and of what encoding refuses.
+// The number of what is accepted.
 pub const ACCEPTED: u32 = 0;
-
-pub const NO_ROOM: u32 = 1;
-
-pub const NOT_CARRIABLE: u32 = 5;
-
-// The numbers of what decoding refuses, in the order in which they are asked.
-pub const KIND_UNKNOWN: u32 = 10;
-
-pub const KEY_MAP_EMPTY: u32 = 12;
-
-pub const CUT_OR_TOO_LONG: u32 = 11;
 
 // Whether a record is an input of the monitor or a request that it sends.
 #[derive(Clone, Copy, Debug, PartialEq, Eq)]
@@ -61,7 +50,7 @@ pub fn decode(direction: Direction, bytes: &[u8]) -> Result<Record, DecodeError>
 {
     let first = decode_first(direction, bytes)?;
     if first.length != bytes.len() {
-        return Err(DecodeError::WrongLength);
+        return Err(DecodeError::CutOrTooLong);
     }
     Ok(first.fields)
 }

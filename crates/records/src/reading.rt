@@ -21,10 +21,10 @@ impl<'a> Reader<'a> {
     // The next n bytes.
     fn take(&mut self, n: usize) -> Result<&'a [u8], DecodeError>
         ensures { MatchResult result (λ bytes. Taken n self.old.rest.now bytes.now self.new.rest.now)
-            (λ e. (e ≡ errors.WrongLength) × (length self.old.rest.now < n)) }
+            (λ e. (e ≡ errors.CutOrTooLong) × (length self.old.rest.now < n)) }
     {
         if self.rest.len() < n {
-            return Err(DecodeError::WrongLength);
+            return Err(DecodeError::CutOrTooLong);
         }
         let (bytes, rest) = self.rest.split_at(n);
         self.rest = rest;
@@ -55,7 +55,7 @@ impl<'a> Reader<'a> {
     {
         let keys = self.byte(is_set(map, COOKIES))?;
         if no_key_set(map, keys) {
-            return Err(DecodeError::EmptyKeyMap);
+            return Err(DecodeError::KeyMapEmpty);
         }
         Ok(keys)
     }
@@ -98,10 +98,10 @@ impl<'a> Reader<'a> {
         ensures { reads result self.new.rest.now ≡ record_at direction self.old.rest.now }
     {
         let [map, rest @ ..] = self.rest else {
-            return Err(DecodeError::UnknownKind); // there is no map
+            return Err(DecodeError::KindUnknown); // there is no map
         };
         if !direction.has_map(*map) {
-            return Err(DecodeError::UnknownKind);
+            return Err(DecodeError::KindUnknown);
         }
         self.rest = rest;
         self.fields(*map)

@@ -3,7 +3,7 @@ ghost use Rattle.std.specs.Prelude.{◌≡◌, slice_index};
 ghost use Rattle.machine.specs.Scripts.{step_of};
 ghost use Rattle.scripts.specs.Operations.{told};
 
-/// What a step does. The numbers of registers, keys, URLs, connections and handlers are those of its bytes, whatever they name.
+// What a step does. The numbers of registers, keys, URLs, connections and handlers are those of its bytes, whatever they name.
 #[derive(Clone, Copy, Debug, PartialEq, Eq)]
 pub enum Operation {
     End,
@@ -39,7 +39,7 @@ pub enum Operation {
     },
 }
 
-/// An unknown operation ends the script as 0 does.
+// An unknown operation ends the script as 0 does.
 impl From<[u8; 4]> for Operation {
     ghost from_gives = { λ bytes operation. told operation
         ≡ step_of (slice_index bytes 0) (slice_index bytes 1) (slice_index bytes 2) (slice_index bytes 3) };

@@ -9,7 +9,7 @@ use super::{SCRIPT_STEPS, STEP_LIMIT};
 use labels::EndpointSet;
 use session::{Kind, Output, Pending, Session};
 
-/// A script's bytes, the connection whose labels it has, and the page that it runs for.
+// A script's bytes, the connection whose labels it has, and the page that it runs for.
 #[derive(Clone, Copy)]
 pub struct Script<'a> {
     code: &'a [u8],
@@ -55,8 +55,8 @@ impl<'a> Script<'a> {
         ])
     }
 
-    #[tactic(auto, unfolding(machine::specs::Scripts::step, machine::specs::Scripts::goes_on, machine::specs::Scripts::ended, session::specs::Output::write_each), using(crate::proofs::Requests::none_requested))]
     // One step: the place of the next one, if the script goes on.
+    #[tactic(auto, unfolding(machine::specs::Scripts::step, machine::specs::Scripts::goes_on, machine::specs::Scripts::ended, session::specs::Output::write_each), using(crate::proofs::Requests::none_requested))]
     fn step<S: EndpointSet>(
         self,
         session: &mut Session<'_, S>,
@@ -117,7 +117,7 @@ impl<'a> Script<'a> {
         }
     }
 
-    /// Runs the script, with a value in register 0, and answers how many steps it met. Requests are written after those that are written.
+    // Runs the script, with a value in register 0, and answers how many steps it met. Requests are written after those that are written.
     pub fn run<S: EndpointSet>(
         self,
         session: &mut Session<'_, S>,

@@ -152,8 +152,8 @@ pub fn write_cookie<S: EndpointSet>(
     Some(place + 1)
 }
 
-#[tactic(auto, unfolding(machine::specs::Scripts::requested, machine::specs::Scripts::goes_on_after, machine::specs::Scripts::ended, machine::specs::Session::send, session::specs::Output::write_each, prelude::specs::Choice::branch))]
 // Steps 5 and 7: a request on the connection `via`, and what is then pending there.
+#[tactic(auto, unfolding(machine::specs::Scripts::requested, machine::specs::Scripts::goes_on_after, machine::specs::Scripts::ended, machine::specs::Session::send, session::specs::Output::write_each, prelude::specs::Choice::branch))]
 pub fn send_request<S: EndpointSet>(
     session: &mut Session<'_, S>,
     connection: usize,

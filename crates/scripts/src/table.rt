@@ -5,7 +5,7 @@ ghost use Rattle.machine.specs.Scripts.{table_bytes};
 use super::script::Script;
 use super::{SCRIPT_BYTES, TABLE_BYTES};
 
-/// So many scripts, one after another.
+// So many scripts, one after another.
 #[derive(Clone, Copy)]
 pub struct Table<'a> {
     bytes: &'a [u8],
@@ -29,7 +29,7 @@ impl<'a> Table<'a> {
         }
     }
 
-    /// A script, of a response on a connection, for a page. It is lent no other script's bytes.
+    // A script, of a response on a connection, for a page. It is lent no other script's bytes.
     #[tactic(auto, using(crate::proofs::Tables::part_is, crate::proofs::Tables::part_length))]
     pub fn script(self, number: u8, connection: usize, page: u8) -> Script<'a>
         requires { (number < script_count) × (connection < connections) }

@@ -58,8 +58,8 @@ impl<'a, S: EndpointSet> Session<'a, S> {
         set_cookie(self.words, host, key, value);
     }
 
-    #[tactic(auto, unfolding(machine::specs::Session::store_cookie, prelude::specs::Choice::branch))]
     // Stores a cookie that was delivered on a connection, where it may be stored.
+    #[tactic(auto, unfolding(machine::specs::Session::store_cookie, prelude::specs::Choice::branch))]
     fn store_cookie(&mut self, connection: usize, host: usize, key: usize, value: u32)
         requires { (connection < connections) × (host < hosts) × (key < host_keys) }
         ensures memory { self.new.words.ghost_name ≡ self.old.words.ghost_name }
@@ -72,8 +72,8 @@ impl<'a, S: EndpointSet> Session<'a, S> {
         }
     }
 
-    #[tactic(auto, unfolding(prelude::specs::Choice::branch))]
     // The same, where the cookie was delivered.
+    #[tactic(auto, unfolding(prelude::specs::Choice::branch))]
     fn store_if_delivered(
         &mut self,
         connection: usize,

@@ -16,18 +16,15 @@ pub enum Kind {
     Picture = 3,
 }
 
-impl Kind {
-    // The map byte of a kind's request, where no cookies follow.
-    #[tactic(auto, unfolding(machine::specs::Session::plain_request, prelude::specs::Choice::branch))]
-    pub fn plain_request(self) -> u8
-        ensures map { result ≡ plain_request (number_of self) }
-        ensures small { result < 128 }
-    {
-        match self {
-            Kind::Document => DOCUMENT_REQUEST,
-            Kind::Script => SCRIPT_REQUEST,
-            Kind::Picture => PICTURE_REQUEST,
-        }
+// The map byte of the request of a kind, by its number, where no cookies follow. A number of no kind is taken as a document's.
+#[tactic(auto, unfolding(machine::specs::Session::plain_request, prelude::specs::Choice::branch))]
+pub fn plain_request(number: u32) -> u8
+    ensures { (result ≡ plain_request number) × (result < 128) }
+{
+    match Kind::try_from(number) {
+        Ok(Kind::Script) => SCRIPT_REQUEST,
+        Ok(Kind::Picture) => PICTURE_REQUEST,
+        Ok(Kind::Document) | Err(NoKind) => DOCUMENT_REQUEST,
     }
 }
 

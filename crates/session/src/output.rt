@@ -15,7 +15,7 @@ fn write_next(fields: Record, out: &mut [u8], at: usize) -> usize
     at + written.unwrap_or(0)
 }
 
-/// A buffer that is lent, and how many of its bytes are written.
+// A buffer that is lent, and how many of its bytes are written.
 #[derive(Drop)]
 pub struct Output<'a> {
     buffer: &'a mut [u8],
@@ -27,7 +27,7 @@ impl<'a> Output<'a> {
     ghost use Rattle.std.specs.Prelude.{◌≡◌};
     ghost use Rattle.session.specs.Output.{output, write_next};
 
-    /// Nothing is written yet.
+    // Nothing is written yet.
     pub fn new(buffer: &'a mut [u8]) -> Output<'a>
         ensures memory { result.buffer.ghost_name ≡ buffer.entry.ghost_name }
         ensures buffer { result.buffer.now ≡ buffer.old }
@@ -36,14 +36,14 @@ impl<'a> Output<'a> {
         Output { buffer, at: 0 }
     }
 
-    /// How many bytes are written.
+    // How many bytes are written.
     pub fn written(&self) -> usize
         ensures { result ≡ self.now.at }
     {
         self.at
     }
 
-    /// Writes a request after those that are written.
+    // Writes a request after those that are written.
     pub fn write_next(&mut self, fields: Record)
         ensures memory { self.new.buffer.ghost_name ≡ self.old.buffer.ghost_name }
         ensures written { output self.new.at self.new.buffer.now

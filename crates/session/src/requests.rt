@@ -5,10 +5,9 @@ ghost use Rattle.labels.specs.Addresses.{hosts};
 ghost use Rattle.records.specs.Layout.{key_numbers};
 ghost use Rattle.machine.specs.Policy.{host_keys, cookie_index};
 ghost use Rattle.machine.specs.Session.{state_words, cookie_value, has, request_map};
-ghost use Rattle.session.specs.Kinds.{number_of};
 
 use super::cookies::has;
-use super::kinds::Kind;
+use super::kinds::plain_request;
 use super::output::Output;
 use super::pending::Pending;
 use super::state::Session;
@@ -38,10 +37,10 @@ fn attached_values(state: &[u32], host: usize, keys: u8) -> [u32; 8]
 }
 
 #[tactic(auto, unfolding(machine::specs::Session::request_map, prelude::specs::Choice::branch))]
-fn request_map(kind: Kind, keys: u8) -> u8
-    ensures { result ≡ request_map (number_of kind) keys }
+fn request_map(kind: u32, keys: u8) -> u8
+    ensures { result ≡ request_map kind keys }
 {
-    let plain = kind.plain_request();
+    let plain = plain_request(kind);
     if keys == 0 {
         plain
     } else {
@@ -52,7 +51,7 @@ fn request_map(kind: Kind, keys: u8) -> u8
 impl<'a, S: EndpointSet> Session<'a, S> {
     ghost use Rattle.std.specs.Prelude.{◌≡◌, ◌<◌};
     ghost use Rattle.machine.specs.Policy.{connections};
-    ghost use Rattle.machine.specs.Session.{key_map, attaches, request, set_connection};
+    ghost use Rattle.machine.specs.Session.{key_map, attaches, kind_of, handler_of, url_of, request, set_connection};
     ghost use Rattle.policy.specs.Given.{Url};
     ghost use Rattle.session.specs.Kinds.{number_of};
     ghost use Rattle.session.specs.Output.{output, write_next};
@@ -71,27 +70,47 @@ impl<'a, S: EndpointSet> Session<'a, S> {
     }
 
     // The fields of the request of what is pending on a connection.
-    fn request(&self, connection: usize, pending: Pending) -> Record
-        requires { Url self.now.policy.words.now pending.url × (connection < connections) }
-        ensures { result
-            ≡ request self.now.policy.words.now self.now.words.now connection (number_of pending.kind) pending.handler pending.url }
+    fn request(&self, connection: usize, kind: u32, handler: u8, url: u8) -> Record
+        requires { Url self.now.policy.words.now url × (connection < connections) }
+        ensures { result ≡ request self.now.policy.words.now self.now.words.now connection kind handler url }
     {
-        let url = usize::from(pending.url);
-        let keys = self.attached_keys(url);
-        let cookies = attached_values(self.words, self.policy.url_host(url), keys);
+        let page = usize::from(url);
+        let keys = self.attached_keys(page);
+        let cookies = attached_values(self.words, self.policy.url_host(page), keys);
         Record {
-            map: request_map(pending.kind, keys),
-            url: pending.url,
+            map: request_map(kind, keys),
+            url,
             connection: connection as u8,
             keys,
             cookies,
-            script: pending.handler,
+            script: handler,
             value: 0,
             target: 0,
         }
     }
 
-    // Opens or moves a connection, whatever was pending on it, and writes its request after those that are written.
+    // Opens or moves a connection as its new word says, whatever was pending on it, and writes its request after those that are written. Of any word,
+    // that of a kind too that there is not.
+    #[tactic(auto, unfolding(machine::specs::Session::kind_of, machine::specs::Session::handler_of, machine::specs::Session::url_of))]
+    pub fn send_word(&mut self, connection: usize, word: u32, out: &mut Output<'_>)
+        requires { Url self.old.policy.words.now (url_of word) × (connection < connections) }
+        ensures memory { self.new.words.ghost_name ≡ self.old.words.ghost_name }
+        ensures output_memory { out.new.buffer.ghost_name ≡ out.old.buffer.ghost_name }
+        ensures policy { self.new.policy.words.now ≡ self.old.policy.words.now }
+        ensures words { self.new.words.now ≡ set_connection connection word self.old.words.now }
+        ensures written { output out.new.at out.new.buffer.now
+            ≡ write_next
+            (request self.old.policy.words.now self.old.words.now connection (kind_of word) (handler_of word) (url_of word))
+            (output out.old.at out.old.buffer.now) }
+    {
+        let kind = word / 0x100_0000;
+        let handler = (word / 0x100 % 0x100) as u8;
+        let url = (word % 0x100) as u8;
+        out.write_next(self.request(connection, kind, handler, url));
+        set_connection(self.words, connection, word);
+    }
+
+    // The same of what is to be pending.
     pub fn send(&mut self, connection: usize, pending: Pending, out: &mut Output<'_>)
         requires { Url self.old.policy.words.now pending.url × (connection < connections) }
         ensures memory { self.new.words.ghost_name ≡ self.old.words.ghost_name }
@@ -103,7 +122,6 @@ impl<'a, S: EndpointSet> Session<'a, S> {
             (request self.old.policy.words.now self.old.words.now connection (number_of pending.kind) pending.handler pending.url)
             (output out.old.at out.old.buffer.now) }
     {
-        out.write_next(self.request(connection, pending));
-        set_connection(self.words, connection, u32::from(pending));
+        self.send_word(connection, u32::from(pending), out);
     }
 }

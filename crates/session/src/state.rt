@@ -7,7 +7,7 @@ use super::words::{connection_word, set_connection};
 use labels::EndpointSet;
 use policy::Policy;
 
-/// A policy that is well formed, and a state of as many words as a state has.
+// A policy that is well formed, and a state of as many words as a state has.
 #[derive(Drop)]
 pub struct Session<'a, S: EndpointSet> {
     pub(crate) policy: Policy<'a, S>,
@@ -37,7 +37,7 @@ impl<'a, S: EndpointSet> Session<'a, S> {
         self.policy
     }
 
-    /// What is pending on a connection, if it is open.
+    // What is pending on a connection, if it is open.
     pub fn pending(&self, connection: usize) -> Option<Pending>
         requires { connection < connections }
         ensures { result ≡ pending_in (connection_word self.now.words.now connection) }
@@ -45,7 +45,7 @@ impl<'a, S: EndpointSet> Session<'a, S> {
         Pending::try_from(connection_word(self.words, connection)).ok()
     }
 
-    /// Frees a connection, whatever was pending on it.
+    // Frees a connection, whatever was pending on it.
     pub fn free(&mut self, connection: usize)
         requires { connection < connections }
         ensures memory { self.new.words.ghost_name ≡ self.old.words.ghost_name }

@@ -1,13 +1,14 @@
 -- The loop over the URLs: the lines of those that are left make the whole, and there is room for them.
 use Rattle.prelude.proofs.Kit.{ℕ, ◌≤◌, ◌<◌, ◌+◌, ◌-◌, ◌*◌, suc, add-one, arith, true, Bool, false, List, ◌∷◌, [], ◌++◌, map, ◌≡◌, refl}
-use Rattle.prelude.proofs.Kit.{subst, length, length-append, lt-ltb, ne_eqb, eq-eqb}
+use Rattle.prelude.proofs.Kit.{length, length-append, lt-ltb, ne_eqb, eq-eqb}
 use Rattle.prelude.specs.Choice.{branch, keep}
 use Rattle.prelude.specs.Refusals.{accepted}
 use Rattle.prelude.specs.Lists.{numbers}
 use Rattle.machine.specs.Policy.{url_rows}
-use Rattle.text.specs.Text.{space, newline, decimal, Wrote}
-use Rattle.text.proofs.Decimals.{number_room}
-use Rattle.text.proofs.Writing.{Writing, writing_begins, writing_goes_on, writing_ends}
+use Rattle.text.specs.declared.Writer.{Writer}
+use Rattle.text.specs.Writing.{HasRoom, Writes}
+use Rattle.text.proofs.Decimals.{numbers_room}
+use Rattle.text.proofs.Writing.{Leads, leads_on, leads_end}
 use Rattle.usage.specs.declared.Tally.{Tally}
 use Rattle.usage.specs.Tally.{urls}
 use Rattle.usage.specs.Lines.{Line, line_of, has_any, lines_of, lines}
@@ -28,20 +29,9 @@ module _ (l : Line) where
   unfolding branch
   line_short = go (has_any l)
     where
-      pair : List ℕ
-      pair = (decimal l.records ++ (space ∷ [])) ++ (decimal l.cookies ++ (newline ∷ []))
-
       go : (b : Bool) → length (branch b (line_text l) []) ≤ line_room
       go false = omega arith
-      go true =
-          omega (
-            arith,
-            number_room l.url space,
-            number_room l.records space,
-            number_room l.cookies newline,
-            length-append (decimal l.url ++ (space ∷ [])) pair,
-            length-append (decimal l.records ++ (space ∷ [])) (decimal l.cookies ++ (newline ∷ [])),
-          )
+      go true = numbers_room (l.url ∷ l.records ∷ l.cookies ∷ []) (omega arith)
 
 -- ---- the lines from a URL on
 
@@ -90,27 +80,26 @@ module _ (records cookies : List ℕ) where
       let none : url_rows - u ≡ 0 = omega arith in
       rw none
 
-  -- the lines before URL `u` end at `at`
-  pub record Listing (before text : List ℕ) (at u : ℕ) : Type 0 where
-    pub room : at + line_room * (url_rows - u) ≤ length before
-    pub writing : Writing before 0 (lines_text (lines_of records cookies)) text at (rest u)
+  -- the lines before URL `u` are written
+  pub record Listing (first now : Writer) (u : ℕ) : Type 0 where
+    pub room : HasRoom now (line_room * (url_rows - u))
+    pub leads : Leads first (lines_text (lines_of records cookies)) now (rest u)
 
-  module _ {before : List ℕ} where
-    pub listing_begins : url_rows * line_room ≤ length before → Listing before before 0 0
-    listing_begins h = record { room = omega arith; writing = subst (Writing before 0 (lines_text (lines_of records cookies)) before 0) all_lines writing_begins }
+  pub listing_begins : (w : Writer) → HasRoom w (url_rows * line_room) → Listing w w 0
+  listing_begins w h = record { room = omega arith; leads = λ last f. rw all_lines f }
 
-    module _ {text : List ℕ} {at u : ℕ} (p : Listing before text at u) where
-      pub listing_ends : url_rows ≤ u → Wrote before 0 (lines_text (lines_of records cookies)) text at
-      listing_ends l = writing_ends p.writing (rest_none u l) (omega (arith, p.room))
+  module _ {first now : Writer} {u : ℕ} (p : Listing first now u) where
+    pub listing_ends : url_rows ≤ u → Writes first (lines_text (lines_of records cookies)) now
+    listing_ends l = leads_end p.leads (rest_none u l)
 
-      pub line_room_lem : u < url_rows → at + line_room ≤ length text
-      line_room_lem l = omega (arith, p.room, p.writing.long)
+    pub room_here : u < url_rows → HasRoom now line_room
+    room_here l = omega (arith, p.room)
 
-      pub listing_goes_on : {after : List ℕ} {next : ℕ} → u < url_rows → Wrote text at (line_if_any (line_of records cookies u)) after next → Listing before after next (u + 1)
-      listing_goes_on l w = record {
-        room = omega (arith, p.room, w.place, line_short (line_of records cookies u));
-        writing = writing_goes_on p.writing (rest_more u l) w;
-      }
+    pub listing_goes_on : {next : Writer} → u < url_rows → Writes now (line_if_any (line_of records cookies u)) next → Listing first next (u + 1)
+    listing_goes_on l w = record {
+      room = omega (arith, p.room, w.wrote.place, w.same_length, line_short (line_of records cookies u));
+      leads = leads_on p.leads (rest_more u l) w;
+    }
 
 -- ---- the report
 

@@ -2,7 +2,7 @@
 #![tactic(auto)]
 
 ghost use Rattle.std.specs.Prelude.{◌≡◌, ◌<◌, ◌≤◌, length};
-ghost use Rattle.text.specs.Text.{AtFront};
+ghost use Rattle.text.specs.Writing.{HasRoom, Writes};
 ghost use Rattle.usage.specs.Tally.{list_bytes};
 ghost use Rattle.tally.specs.Report.{report_room, printed};
 
@@ -10,6 +10,7 @@ mod report;
 
 use report::{REPORT_BYTES, write_report};
 use std::io;
+use text::Writer;
 use usage::LIST_BYTES;
 
 // One byte more than the longest list, so that a longer one is seen.
@@ -26,17 +27,18 @@ fn tally(rt: &HostRuntime, input: &[u8], n: usize) -> io::Result<()>
     requires { (list_bytes < length input.now) × (n ≤ length input.now) }
 {
     let requests = &input[..n];
-    let mut text = [0u8; REPORT_BYTES];
-    let end = write_tally(&mut text, requests);
-    print(rt, requests, &text[..end])
+    let mut room = [0u8; REPORT_BYTES];
+    let mut text = Writer::new(&mut room);
+    write_tally(&mut text, requests);
+    print(rt, requests, text.written())
 }
 
 // All that is printed of a list of requests.
-fn write_tally(text: &mut [u8], requests: &[u8]) -> usize
-    requires { report_room ≤ length text.old }
-    ensures { AtFront (printed requests.now) text.old text.new result }
+fn write_tally(text: &mut Writer<'_>, requests: &[u8])
+    requires { HasRoom text.old report_room }
+    ensures { Writes text.old (printed requests.now) text.new }
 {
-    write_report(text, usage::usage_count(requests))
+    write_report(text, &usage::usage_count(requests));
 }
 
 // The only write: what goes out is all that is printed of the list, and nothing else.

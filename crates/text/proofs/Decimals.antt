@@ -1,8 +1,10 @@
 -- The digits of a number: one below ten, else one more than a tenth of it has; and how many there can be.
+use Rattle.prelude.proofs.Kit.{refl}
 use Rattle.prelude.proofs.Kit.{ℕ, ◌≤◌, ◌<◌, ◌+◌, suc, ◌^◌, zero, ◌%◌, ◌/◌, zero-lt-suc, le_of_suc-le-suc, not-suc-le-zero, arith, true}
 use Rattle.prelude.proofs.Kit.{Bool, false, cond, List, ◌∷◌, [], ◌++◌, ◌≡◌, sym, ◌∙◌, ap, le-ltb, lt-ltb, ltb, length, length-append}
 use native.Mathlib.Nat.{pow-suc, div-lt_iff_lt-mul}
-use Rattle.text.specs.Text.{digit, decimal_within, decimal}
+use Rattle.prelude.proofs.Kit.{◌*◌, ◌-◌, map, take, drop, get_or, take_all}
+use Rattle.text.specs.Text.{digit, decimal_within, decimal, line, space, newline}
 
 -- more digits than are enough change nothing
 stable : (few most n : ℕ) → n < 10 ^ suc few → few ≤ most → decimal_within (suc most) n ≡ decimal_within (suc few) n
@@ -48,3 +50,26 @@ module _ (n : ℕ) where
 
   pub byte_room : (end : ℕ) → n < 256 → length (decimal n ++ (end ∷ [])) ≤ 4
   byte_room end h = simp length-append (omega (arith, decimal_three h))
+
+-- ---- numbers on a line
+
+-- the first of two or more has a space behind it, and the others follow, as code lends them
+pub line_more : (ns : List ℕ) → 2 ≤ length ns
+    → line (map decimal ns) ≡ (decimal (get_or ns 0 0) ++ (space ∷ [])) ++ line (map decimal (take (length ns - 1) (drop 1 ns)))
+line_more [] h = absurd (omega arith)
+line_more (n ∷ []) h = absurd (omega arith)
+line_more (n ∷ m ∷ ns) h =
+    let all : take (length (n ∷ m ∷ ns) - 1) (m ∷ ns) ≡ m ∷ ns = take_all (length (n ∷ m ∷ ns) - 1) (m ∷ ns) (omega arith) in
+    ap (λ rest. (decimal n ++ (space ∷ [])) ++ line (map decimal rest)) (sym all)
+
+-- a word before some has a space behind it
+pub line_after : (word : List ℕ) (ns : List ℕ) → 0 < length ns → line (word ∷ map decimal ns) ≡ (word ++ (space ∷ [])) ++ line (map decimal ns)
+line_after word [] h = absurd (omega arith)
+line_after word (n ∷ ns) h = refl
+
+-- a line has room for ten digits of each, and the byte that ends them
+pub numbers_room : (ns : List ℕ) → 0 < length ns → length (line (map decimal ns)) ≤ 11 * length ns
+numbers_room [] h = absurd (omega arith)
+numbers_room (n ∷ []) h = number_room n newline
+numbers_room (n ∷ m ∷ ns) h =
+    simp length-append (omega (arith, simp length-append at (number_room n space), numbers_room (m ∷ ns) (omega arith)))

@@ -5,8 +5,11 @@ use mathlib.Core.Bool.{and-false}
 use lib.Seq.{drop-length}
 use borrow.Author.Tests.{le-leb, lt-leb, eq-eqb, ne_eqb}
 use Rattle.prelude.specs.Choice.{every}
-use Rattle.text.specs.declared.digits.Value.TheVariants.{Number, Other}
+use Rattle.std.specs.Prelude.{Some, None}
 use Rattle.text.specs.Numbers.{is_digit, number_after, number_of, most_digits, largest, is_number, number_read}
+
+at_most_nine : (x : ℕ) → is_digit x ≡ true → x ≤ 0x39
+at_most_nine x e = grind (arith, e)
 
 -- digits before place i wrote n
 pub record Reading (text : List ℕ) (n i : ℕ) : Type 0 where
@@ -23,15 +26,15 @@ module _ (text : List ℕ) where
 
   -- what is no number
   module _ (no : every is_digit text ≡ false) where
-    pub no_digits : number_read text ≡ Other
+    pub no_digits : number_read text ≡ None
     unfolding is_number
     no_digits = rw (no, and-false, and-false)
 
-  pub no_text : length text ≡ 0 → number_read text ≡ Other
+  pub no_text : length text ≡ 0 → number_read text ≡ None
   unfolding is_number
   no_text e = rw (eq-eqb (length text) 0 e)
 
-  pub too_many : most_digits < length text → number_read text ≡ Other
+  pub too_many : most_digits < length text → number_read text ≡ None
   unfolding is_number
   too_many l = rw (lt-leb (length text) most_digits l, and-false)
 
@@ -44,19 +47,19 @@ module _ (text : List ℕ) where
       abbrev next : ℕ
       next = get_or text i 0
 
-      pub reading_stops : is_digit next ≡ false → number_read text ≡ Other
+      pub reading_stops : is_digit next ≡ false → number_read text ≡ None
       unfolding every
       reading_stops e = no_digits (sym r.digits ∙ rw (drop-cons text i 0 l, e))
 
-      pub reading_goes_on : is_digit next ≡ true → next - 0x30 < 10 → Reading text (n * 10 + (next - 0x30)) (i + 1)
+      pub reading_goes_on : is_digit next ≡ true → {d : ℕ} → d ≡ next - 0x30 → Reading text (n * 10 + d) (i + 1)
       unfolding every number_after
       reading_goes_on e k = record {
         short = r.short;
         some = r.some;
         few = omega (arith, l);
-        small = rw (add-one i, pow-suc 10 i) (omega (arith, r.small, k));
+        small = rw (add-one i, pow-suc 10 i) (omega (arith, r.small, k, at_most_nine next e));
         digits = rw (add-one i) (sym (rw (drop-cons text i 0 l, e)) ∙ r.digits);
-        number = rw (add-one i) (sym (rw (drop-cons text i 0 l)) ∙ r.number);
+        number = rw (add-one i, k) (sym (rw (drop-cons text i 0 l)) ∙ r.number);
       }
 
     module _ (e : i ≡ length text) where
@@ -68,22 +71,15 @@ module _ (text : List ℕ) where
       unfolding number_after
       read_all = rw (e, drop-length text) at r.number
 
-      pub too_large : largest < n → number_read text ≡ Other
+      pub too_large : largest < n → number_read text ≡ None
       unfolding is_number
       too_large k =
           rw (ne_eqb (length text) 0 (λ z. omega (arith, z, r.some)), le-leb (length text) most_digits r.short, all_digits, lt-leb (number_of text) largest (omega (arith, k, read_all)))
 
-      pub is_read : n ≤ largest → number_read text ≡ Number n
+      pub is_read : n ≤ largest → number_read text ≡ Some n
       unfolding is_number
       is_read k =
           rw (ne_eqb (length text) 0 (λ z. omega (arith, z, r.some)), le-leb (length text) most_digits r.short, all_digits, le-leb (number_of text) largest (omega (arith, k, read_all)), sym read_all)
 
--- a byte is a digit just from `0` to `9`
-pub is_digit_lem : (x : ℕ) → 0x30 ≤ x → x ≤ 0x39 → is_digit x ≡ true
-is_digit_lem x l k = rw (le-leb 0x30 x l, le-leb x 0x39 k)
-
-pub below_digits : (x : ℕ) → x < 0x30 → is_digit x ≡ false
-below_digits x l = rw (lt-leb 0x30 x l)
-
-pub above_digits : (x : ℕ) → 0x39 < x → is_digit x ≡ false
-above_digits x l = rw (lt-leb x 0x39 l, and-false)
+-- for the check: what each way out of the loop leaves
+pub ruleset read_or_not = (no_text, too_many, reading_stops, too_large, is_read)

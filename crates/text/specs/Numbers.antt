@@ -1,9 +1,7 @@
 -- The numbers that digits write, as they are read.
-use Rattle.std.specs.Prelude.{ℕ, ◌+◌, ◌-◌, ◌*◌, Bool, not, ◌&&◌, cond, List, [], ◌∷◌, leb, length}
+use Rattle.std.specs.Prelude.{ℕ, ◌+◌, ◌-◌, ◌*◌, Bool, not, ◌&&◌, cond, List, [], ◌∷◌, leb, length, Option, Some, None}
 use Rattle.prelude.specs.Choice.{every}
 use Rattle.prelude.specs.Lists.{is_empty}
-use Rattle.text.specs.declared.digits.Value.{Value}
-use Rattle.text.specs.declared.digits.Value.TheVariants.{Number, Other}
 
 abbrev pub is_digit : ℕ → Bool
 is_digit x = leb 0x30 x && leb x 0x39
@@ -27,5 +25,5 @@ unfoldable pub is_number : List ℕ → Bool
 is_number text = not (is_empty text) && (leb (length text) most_digits && (every is_digit text && leb (number_of text) largest))
 
 -- what is read of a text
-abbrev pub number_read : List ℕ → Value
-number_read text = cond (is_number text) (Number (number_of text)) Other
+abbrev pub number_read : List ℕ → Option ℕ
+number_read text = cond (is_number text) (Some (number_of text)) None

@@ -5,38 +5,20 @@ ghost use Rattle.text.specs.Numbers.{number_read};
 // No number has more.
 const MOST_DIGITS: usize = 10;
 
-const LARGEST: u64 = 4_294_967_295;
-
-// What a text is, read as a number: one, or anything else.
-#[derive(Clone, Copy)]
-pub enum Value {
-    Number(u32),
-    Other,
-}
-
-// One to ten digits, zeros in front among them, that make at most 4,294,967,295.
-pub fn read_number(text: &[u8]) -> Value
+// What a text is, read as a number: one to ten digits, zeros in front among them, that make at most 4,294,967,295.
+#[tactic(auto, using(crate::proofs::Reading::read_or_not))]
+pub fn read_number(text: &[u8]) -> Option<u32>
     ensures { result ≡ number_read text.now }
 {
-    if text.len() == 0 {
-        return Value::Other;
+    if text.is_empty() || MOST_DIGITS < text.len() {
+        return None;
     }
-    if MOST_DIGITS < text.len() {
-        return Value::Other;
-    }
-    let mut n = 0u64;
-    for i in 0..text.len() {
-        let byte = text[i];
-        if byte < b'0' {
-            return Value::Other;
+    let mut number = 0u64;
+    for &digit in text {
+        if !digit.is_ascii_digit() {
+            return None;
         }
-        if b'9' < byte {
-            return Value::Other;
-        }
-        n = n * 10 + (byte - b'0') as u64;
+        number = number * 10 + u64::from(digit - b'0');
     }
-    if LARGEST < n {
-        return Value::Other;
-    }
-    Value::Number(n as u32)
+    u32::try_from(number).ok()
 }

@@ -1,4 +1,3 @@
 pub mod Requests
-pub mod Printing
 pub mod Words
 pub mod Inputs

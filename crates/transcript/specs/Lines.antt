@@ -1,12 +1,12 @@
 -- What walk prints (document 01, "Program walk").
 use Rattle.std.specs.Prelude.{ℕ, List, [], ◌∷◌, ◌++◌}
+use Rattle.prelude.specs.Refusals.{accepted}
 use Rattle.records.specs.declared.Direction.TheVariants.{Request}
 use Rattle.records.specs.declared.Record.{Record}
 use Rattle.records.specs.Codec.{read_run}
-use Rattle.transcript.specs.declared.input.InputSize.{InputSize}
-use Rattle.transcript.specs.declared.input.InputSize.TheVariants.{Short, Long, Fits}
 use Rattle.transcript.specs.declared.input.Ending.{Ending}
 use Rattle.transcript.specs.declared.input.Ending.TheVariants.{End, Cut}
+use Rattle.transcript.specs.Input.{InputSize, Short, Long, Fits}
 use Rattle.text.specs.Text.{decimal, hex, line}
 
 -- `short`, `long`; nothing of an input that fits

@@ -1,7 +1,6 @@
 // The parts of walk's input: policy words, script table, then records, each after one length byte.
-ghost use Rattle.std.specs.Prelude.{◌≡◌, ◌+◌, ◌<◌, ◌≤◌, length, take, drop};
-ghost use Rattle.records.specs.Bytes.{number};
-ghost use Rattle.transcript.specs.Input.{policy_bytes, input_size, policy_of, policy_in, next_record};
+ghost use Rattle.std.specs.Prelude.{◌≡◌, ◌≤◌, ◌∷◌, ◌++◌, length, drop, MatchResult};
+ghost use Rattle.transcript.specs.Input.{policy_bytes, input_size, told_size, policy_of, policy_in, words_read};
 
 use policy::words::WORDS;
 use scripts::TABLE_BYTES;
@@ -13,41 +12,24 @@ pub const RECORDS_AT: usize = POLICY_BYTES + TABLE_BYTES;
 
 pub const INPUT_LIMIT: usize = 65_536;
 
-// Whether an input is one that walk takes.
+// Why walk does not take an input.
 #[derive(Clone, Copy)]
-pub enum InputSize {
-    Short,
-    Long,
-    Fits,
+pub enum Unfit {
+    TooShort,
+    TooLong,
 }
 
-pub fn input_size(input: &[u8]) -> InputSize
-    ensures { result ≡ input_size input.now }
+// Whether walk takes an input.
+pub fn input_size(input: &[u8]) -> Result<(), Unfit>
+    ensures { told_size result ≡ input_size input.now }
 {
     if input.len() < RECORDS_AT {
-        return InputSize::Short;
+        return Err(Unfit::TooShort);
     }
     if INPUT_LIMIT < input.len() {
-        return InputSize::Long;
+        return Err(Unfit::TooLong);
     }
-    InputSize::Fits
-}
-
-fn wide(x: u8) -> u32
-    ensures { (result ≡ x) × (result < 256) }
-{
-    x as u32
-}
-
-// The four bytes from `at` on, most significant first.
-fn word(bytes: &[u8], at: usize) -> u32
-    requires { at + 4 ≤ length bytes.now }
-    ensures { result ≡ number (take 4 (drop at bytes.now)) }
-{
-    wide(bytes[at]) * 0x100_0000
-        + wide(bytes[at + 1]) * 0x1_0000
-        + wide(bytes[at + 2]) * 0x100
-        + wide(bytes[at + 3])
+    Ok(())
 }
 
 // The policy's words, at the front of an input.
@@ -55,9 +37,10 @@ pub fn policy_words(input: &[u8]) -> [u32; WORDS]
     requires { policy_bytes ≤ length input.now }
     ensures { result ≡ policy_of input.now }
 {
-    let mut words = [0u32; WORDS];
-    for i in 0..WORDS {
-        words[i] = word(input, 4 * i);
+    let (quads, _) = input.as_chunks::<4>();
+    let mut words = [0; WORDS];
+    for (i, word) in words.iter_mut().enumerate() {
+        *word = u32::from_be_bytes(quads[i]);
     }
     words
 }
@@ -65,25 +48,14 @@ pub fn policy_words(input: &[u8]) -> [u32; WORDS]
 // One byte more than a policy has, so that a longer input is seen.
 pub const POLICY_INPUT_ROOM: usize = POLICY_BYTES + 1;
 
-// The policy of an input that is nothing else: so many of the words, and none where the input has another length.
-#[derive(Clone, Copy)]
-pub struct PolicyRead {
-    pub words: [u32; WORDS],
-    pub count: usize,
-}
-
-pub fn read_policy(input: &[u8]) -> PolicyRead
-    ensures { (take result.count result.words ≡ policy_in input.now) × (result.count ≤ length result.words) }
+// The policy of an input that is nothing else; none where the input has another length.
+pub fn read_policy(input: &[u8]) -> Option<[u32; WORDS]>
+    ensures { words_read result ≡ policy_in input.now }
 {
-    if input.len() != POLICY_BYTES {
-        return PolicyRead {
-            words: [0; WORDS],
-            count: 0,
-        };
-    }
-    PolicyRead {
-        words: policy_words(input),
-        count: WORDS,
+    if input.len() == POLICY_BYTES {
+        Some(policy_words(input))
+    } else {
+        None
     }
 }
 
@@ -94,23 +66,37 @@ pub enum Ending {
     Cut,
 }
 
-// What is at a place of the input: a record, whose bytes are all there, or the end of the records.
+// The records that are left of an input.
 #[derive(Clone, Copy)]
-pub enum Next {
-    Record { start: usize, length: usize },
-    Last(Ending),
+pub struct Records<'a> {
+    rest: &'a [u8],
 }
 
-pub fn next_record(input: &[u8], at: usize) -> Next
-    ensures { result ≡ next_record input.now at }
-{
-    if input.len() <= at {
-        return Next::Last(Ending::End);
+impl<'a> Records<'a> {
+    ghost use Rattle.transcript.specs.Input.{next_record, Record, Last};
+
+    // Those from a place of the input on.
+    pub fn new(input: &'a [u8], at: usize) -> Records<'a>
+        ensures { result.rest.now ≡ drop at input.now }
+    {
+        let rest = if at < input.len() { &input[at..] } else { &[] };
+        Records { rest }
     }
-    let start = at + 1;
-    let length = input[at] as usize;
-    if input.len() - start < length {
-        return Next::Last(Ending::Cut);
+
+    // The next record, whose bytes are all there; or how the records end.
+    pub fn next_record(&mut self) -> Result<&'a [u8], Ending>
+        ensures { MatchResult result
+            (λ bytes. (next_record self.old.rest.now 0 ≡ Record 1 (length bytes.now))
+            × (self.old.rest.now ≡ length bytes.now ∷ (bytes.now ++ self.new.rest.now)))
+            (λ ending. (next_record self.old.rest.now 0 ≡ Last ending) × (self.new.rest.now ≡ self.old.rest.now)) }
+    {
+        let Some((length, rest)) = self.rest.split_first() else {
+            return Err(Ending::End);
+        };
+        let Some((record, rest)) = rest.split_at_checked(usize::from(*length)) else {
+            return Err(Ending::Cut);
+        };
+        self.rest = rest;
+        Ok(record)
     }
-    Next::Record { start, length }
 }

@@ -5,9 +5,9 @@ mod counts;
 mod input;
 mod lines;
 
-pub use counts::{Counts, counted};
+pub use counts::Counts;
 pub use input::{
-    Ending, INPUT_LIMIT, InputSize, Next, POLICY_BYTES, POLICY_INPUT_ROOM, PolicyRead, RECORDS_AT,
-    input_size, next_record, policy_words, read_policy,
+    Ending, INPUT_LIMIT, POLICY_BYTES, POLICY_INPUT_ROOM, RECORDS_AT, Records, Unfit, input_size,
+    policy_words, read_policy,
 };
 pub use lines::{write_last_line, write_record_lines, write_size_line};

@@ -2,12 +2,13 @@
 // "Program walk"). The text of every line is `transcript`'s.
 #![tactic(auto)]
 
-ghost use Rattle.std.specs.Prelude.{◌≤◌, length};
+ghost use Rattle.std.specs.Prelude.{◌+◌, ◌≤◌, length};
 ghost use Rattle.transcript.specs.Input.{records_at, input_limit};
 
 use monitor::{Answer, OUTPUT_ROOM, STATE_WORDS};
 use std::io;
-use transcript::{Counts, Ending, INPUT_LIMIT, InputSize, Next, POLICY_BYTES, RECORDS_AT};
+use text::Writer;
+use transcript::{Counts, Ending, INPUT_LIMIT, POLICY_BYTES, RECORDS_AT, Records, Unfit};
 
 // One byte more than the longest input, so that a longer one is seen.
 const INPUT_ROOM: usize = INPUT_LIMIT + 1;
@@ -22,53 +23,54 @@ fn main(rt: HostRuntime) -> io::Result<()> {
 }
 
 fn walk(rt: &HostRuntime, input: &[u8]) -> io::Result<()> {
-    let size = transcript::input_size(input);
-    print_size(rt, size)?;
-    if let InputSize::Fits = size {
-        feed_input(rt, input)?;
+    match transcript::input_size(input) {
+        Ok(()) => feed_input(rt, input),
+        unfit => print_size(rt, unfit),
     }
-    Ok(())
 }
 
-fn print(rt: &HostRuntime, bytes: &[u8]) -> io::Result<()> {
-    rt.stdout().write_all(bytes)
+fn print(rt: &HostRuntime, text: &Writer<'_>) -> io::Result<()> {
+    rt.stdout().write_all(text.written())
 }
 
-fn print_size(rt: &HostRuntime, size: InputSize) -> io::Result<()> {
-    let mut text = [0u8; 6];
-    let n = transcript::write_size_line(&mut text, size);
-    print(rt, &text[..n])
+fn print_size(rt: &HostRuntime, size: Result<(), Unfit>) -> io::Result<()> {
+    let mut room = [0u8; 6];
+    let mut text = Writer::new(&mut room);
+    transcript::write_size_line(&mut text, size);
+    print(rt, &text)
 }
 
 fn feed_input(rt: &HostRuntime, input: &[u8]) -> io::Result<()>
     requires { (records_at ≤ length input.now) × (length input.now ≤ input_limit) }
 {
     let policy = transcript::policy_words(input);
+    let scripts = &input[POLICY_BYTES..RECORDS_AT];
+    let records = Records::new(input, RECORDS_AT);
     let mut state = [0u32; STATE_WORDS];
-    feed_records(rt, &policy, input, &mut state)
+    feed_records(rt, &policy, scripts, records, &mut state)
 }
 
-fn feed_records(rt: &HostRuntime, policy: &[u32], input: &[u8], state: &mut [u32]) -> io::Result<()>
-    requires { (records_at ≤ length input.now) × (length input.now ≤ input_limit) }
+fn feed_records(
+    rt: &HostRuntime,
+    policy: &[u32],
+    scripts: &[u8],
+    mut records: Records<'_>,
+    state: &mut [u32],
+) -> io::Result<()>
+    requires { length records.rest.now ≤ input_limit }
 {
-    let scripts = &input[POLICY_BYTES..RECORDS_AT];
     let mut counts = Counts {
         accepted: 0,
         refused: 0,
     };
-    let mut at = RECORDS_AT;
     loop {
-        match transcript::next_record(input, at) {
-            Next::Record { start, length } => {
-                let end = start + length;
+        match records.next_record() {
+            Ok(bytes) => {
                 let nth = counts.accepted + counts.refused + 1;
-                let number = feed_record(rt, policy, scripts, state, &input[start..end], nth)?;
-                counts = transcript::counted(counts, number);
-                at = end;
+                let number = feed_record(rt, policy, scripts, state, bytes, nth)?;
+                counts = counts.counted(number);
             }
-            Next::Last(ending) => {
-                return print_last(rt, ending, counts);
-            }
+            Err(ending) => return print_last(rt, ending, counts),
         }
     }
 }
@@ -91,22 +93,15 @@ fn feed_record(
 fn print_answer(rt: &HostRuntime, nth: u32, answer: Answer, out: &[u8]) -> io::Result<()>
     requires { (answer.bytes ≤ length out.now) × (length out.now ≤ OUTPUT_ROOM) }
 {
-    let sent = answer.bytes as usize;
-    let mut text = [0u8; TEXT_BYTES];
-    let n = transcript::write_record_lines(
-        &mut text,
-        nth,
-        answer.number,
-        answer.bytes,
-        answer.steps,
-        answer.missing,
-        &out[..sent],
-    );
-    print(rt, &text[..n])
+    let mut room = [0u8; TEXT_BYTES];
+    let mut text = Writer::new(&mut room);
+    transcript::write_record_lines(&mut text, nth, answer, &out[..answer.bytes as usize]);
+    print(rt, &text)
 }
 
 fn print_last(rt: &HostRuntime, ending: Ending, counts: Counts) -> io::Result<()> {
-    let mut text = [0u8; 26];
-    let n = transcript::write_last_line(&mut text, ending, counts);
-    print(rt, &text[..n])
+    let mut room = [0u8; 26];
+    let mut text = Writer::new(&mut room);
+    transcript::write_last_line(&mut text, ending, counts);
+    print(rt, &text)
 }

@@ -1,39 +1,27 @@
--- `reach` meets its contract: what is counted so far is the count of the rows below one.
-use Rattle.prelude.proofs.Kit.{ℕ, ◌+◌, zero-le, arith, Bool, ◌≡◌, ◌∙◌, ap}
+-- `reach` meets its contract: the rows that are reached are counted.
+use Rattle.std.proofs.Common.{rules, ◌∙◌, refl, ℕ, ◌<◌, ◌^◌, arith}
 use mir.Val.{bool_byte}
-use Rattle.prelude.specs.Sums.{count_below}
-use Rattle.prelude.proofs.Sums.{count_none, count_added, count_most}
+use Rattle.std.specs.List.{range_with_len, sum_by}
+use Rattle.std.proofs.lemmas.Iterator.{YieldsList-from_range, YieldsList-from_map}
+use Rattle.std.proofs.lemmas.Iterator.Consumers.{sum_by_from_yields_List, fits_by_from_yields_list}
 use Rattle.machine.specs.Policy.{url_rows}
-use Rattle.reach_table.specs.Reach.{reaches}
-use Rattle.reach_table.proofs.Reaching.{reach_is}
-use Rattle.reach_table.proofs.reach.Goals.{After-reaches, At-loop-url}
+use Rattle.reach_table.specs.Reach.{reaches, reach}
+use Rattle.reach_table.proofs.Counting.{digits_are, digits_most}
 use Rattle.reach_table.proofs.reach.Goals as goal
 
-abbrev test : At-loop-url → ℕ → Bool
-test l = let a = l.args in reaches a.policy.now a.connection
-
-abbrev test_2 : After-reaches → ℕ → Bool
-test_2 l = let a = l.args in reaches a.policy.now a.connection
-
--- the count with one row more
-added : (c : After-reaches)
-    → let l = c in l.loop-url.count + bool_byte c.reaches.result ≡ count_below (l.loop-url.url + 1) (test_2 l)
-added c = let l = c in count_added (test_2 l) l.loop-url.url l.loop-url.count c.reaches.result l.loop-url.invariant.1 c.reaches.ensures
-
-pub loop-url-init : goal.loop-url-init
-loop-url-init c = (zero-le, count_none _)
-
-pub overflow_add-count : goal.overflow_add-count
-overflow_add-count c =
-    let l = c in
-    record { fits = omega (arith, added (goal.at.overflow_add-count c).After-reaches, count_most (test (goal.at.overflow_add-count c).At-loop-url) (l.loop-url.url + 1), c.loop-url-test.true) }
-
-pub loop-url-preserved : goal.loop-url-preserved
-loop-url-preserved c = (omega (arith, c.loop-url-test.true), added (goal.at.loop-url-preserved c).After-reaches)
+pub sum-requires-clause-fits : goal.sum-requires-clause-fits
+sum-requires-clause-fits g c =
+    let test = reaches c.args.policy.words.now c.args.connection in
+    let h : ℕ → ℕ = λ i. bool_byte (test i) in
+    let small : sum_by h (range_with_len 0 url_rows) < 2 ^ 32 = omega (arith, digits_most test url_rows) in
+    fits_by_from_yields_list h (range_with_len 0 url_rows) _ (2 ^ 32)
+    (YieldsList-from_map _ h (YieldsList-from_range 0 url_rows url_rows c.map.ensures.source refl) c.map.ensures.closure (λ x r q k. search rules))
+    small
 
 pub returns : goal.returns
-returns c =
-    let l = c in
-    let a = l.args in
-    let all : l.loop-url.url ≡ url_rows = omega (arith, l.loop-url.invariant.0, c.loop-url-test.false) in
-    l.loop-url.invariant.1 ∙ ap (λ (n : ℕ). count_below n (test (goal.at.returns c).At-loop-url)) all ∙ reach_is a.policy.now a.connection
+unfolding reach
+returns g c =
+    let test = reaches c.args.policy.words.now c.args.connection in
+    sum_by_from_yields_List (λ i. bool_byte (test i)) (range_with_len 0 url_rows) _ c.sum.result c.sum.ensures.ran
+    (YieldsList-from_map _ (λ i. bool_byte (test i)) (YieldsList-from_range 0 url_rows url_rows c.map.ensures.source refl) c.map.ensures.closure (λ x r q k. search rules))
+    ∙ digits_are test url_rows

@@ -1,30 +1,24 @@
 -- `reach_count` meets its contract: a policy that is not well formed is refused, and the counts of any other are answered with their sum.
-use Rattle.prelude.proofs.Kit.{ℕ, sym, ◌∙◌, arith, ap, subst, Bool, not, List, T, length, get_or}
-use Rattle.policy.specs.Given.{WellFormed}
-use Rattle.reach_table.proofs.Reaching.{reach_most, count_at, counts_long, tabled_refused, is_table_lem}
-use Rattle.reach_table.proofs.reach_count.Goals.{Else-not-well_formed}
+use Rattle.std.proofs.Common.{rules, ◌≡◌, sym, ◌∙◌, ap, arith, Bool, false, not, List, map, get_or, is_some}
+use Rattle.prelude.proofs.Kit.{subst, T}
+use Rattle.prelude.specs.Lists.{numbers}
+use Rattle.machine.specs.Policy.{connections}
+use Rattle.reach_table.specs.Reach.{reach}
+use Rattle.reach_table.proofs.Reaching.{reach_most, count_at, tabled_refused, is_table_lem}
 use Rattle.reach_table.proofs.reach_count.Goals as goal
 
-formed : (m : Else-not-well_formed) → WellFormed m.args.policy.now
-formed m = m.well_formed-2.ensures.1 (m.if-not-well_formed.false)
-
-pub returns-then-not-well_formed : goal.returns-then-not-well_formed
-returns-then-not-well_formed c =
-    let w = c in
-    let failed = sym w.well_formed-2.ensures.0 ∙ c.if-not-well_formed.true in
-    c.refused.ensures ∙ sym (tabled_refused _ (subst (λ (b : Bool). T (not b)) (sym failed) tt))
-
-pub reach_of_each-urls-requires : goal.reach_of_each-urls-requires
-reach_of_each-urls-requires c = formed (goal.at.reach_of_each-urls-requires c).Else-not-well_formed
+pub returns-in_default : goal.returns-in_default
+returns-in_default c =
+    let none : is_some c.parse.result ≡ false = search rules in
+    sym (tabled_refused c.args.policy.now (subst (λ (b : Bool). T (not b)) (sym none ∙ c.parse.ensures.formed) tt))
 
 pub total-all-requires : goal.total-all-requires
-total-all-requires c =
-    let r = c in
-    let p = r.args.policy.now in
-    let counts = r.reach_of_each-urls.ensures in
-    (ap (λ (us : List ℕ). length us) counts ∙ counts_long p, λ n l. omega (arith, ap (λ (us : List ℕ). get_or us n 0) counts, count_at p n l, reach_most p n))
+total-all-requires c = λ n l.
+    let p = c.in-Some.policy.words.now in omega (arith, ap (λ (us : List _). get_or us n 0) c.reach_of_each-urls.ensures, count_at p n l, reach_most p n)
 
 pub returns : goal.returns
 returns c =
-    let r = c in
-    is_table_lem _ _ _ (formed (goal.at.returns c).Else-not-well_formed).formed r.reach_of_each-urls.ensures c.total-all.ensures
+    let told = c.in-Some.ensures in
+    is_table_lem c.args.policy.now _ _ (subst T told.formed tt)
+    (c.reach_of_each-urls.ensures ∙ ap (λ p. map (reach p) (numbers 0 connections)) told.words)
+    c.total-all.ensures

@@ -1,10 +1,10 @@
--- `walk::feed_records` is safe and ends: each record is within the input and counted once, and the next begins after it.
-use Rattle.prelude.proofs.Kit.{◌≤◌, ◌+◌, ◌-◌, ◌≡◌, length}
-use Rattle.transcript.specs.Input.{records_at}
+-- `walk::feed_records` is safe and ends: each record is within what is left, and counted once.
+use Rattle.prelude.proofs.Kit.{◌≤◌, ◌+◌, ◌≡◌, length}
+use Rattle.transcript.specs.Input.{input_limit}
 use Rattle.walk.proofs.feed_records.Given as goal
 
-abbrev pub invariant-loop-start : goal.invariant-loop-start
-invariant-loop-start l = (records_at + (l.counts.accepted + l.counts.refused) ≤ l.at) × (l.at ≤ length l.input) × (length l.state ≡ length l.initial.state)
+abbrev pub invariant-loop-bytes : goal.invariant-loop-bytes
+invariant-loop-bytes l = (l.counts.accepted + l.counts.refused + length l.records.rest.now ≤ input_limit) × (length l.state ≡ length l.initial.state)
 
-abbrev pub decreases-loop-start : goal.decreases-loop-start
-decreases-loop-start l = length l.input - l.at
+abbrev pub decreases-loop-bytes : goal.decreases-loop-bytes
+decreases-loop-bytes l = length l.records.rest.now

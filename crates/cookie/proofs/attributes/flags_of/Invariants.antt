@@ -1,10 +1,10 @@
--- `attributes::flags_of` meets its contract: each attribute in turn raises its flag.
-use Rattle.prelude.proofs.Kit.{◌-◌, length}
-use Rattle.cookie.proofs.Flagging.{Flagging}
+-- Each attribute in turn raises its flag.
+use Rattle.std.specs.Option.{option_copied}
+use Rattle.cookie.proofs.Flagging.{Flagging, left_long}
 use Rattle.cookie.proofs.attributes.flags_of.Given as goal
 
-abbrev pub invariant-loop-at : goal.invariant-loop-at
-invariant-loop-at l = Flagging l.line l.flags l.at
+abbrev pub invariant-loop-left : goal.invariant-loop-left
+invariant-loop-left l = Flagging l.line l.flags (option_copied l.left)
 
-abbrev pub decreases-loop-at : goal.decreases-loop-at
-decreases-loop-at l = length l.line - l.at
+abbrev pub decreases-loop-left : goal.decreases-loop-left
+decreases-loop-left l = left_long (option_copied l.left)

@@ -1,17 +1,16 @@
--- `parts::position` meets its contract: the first bytes one by one, then strides, then what is left.
-use Rattle.prelude.proofs.Kit.{arith}
-use Rattle.cookie.proofs.Finding.{past_then, past_to_it, past_to_stop}
+-- The first bytes are looked at one by one, then strides, then what is left.
+use Rattle.prelude.proofs.Kit.{◌∙◌}
+use Rattle.cookie.proofs.Strides.{found_near, found_far, found_nowhere}
 use Rattle.cookie.proofs.parts.position.Goals as goal
 
-pub returns-then-text-le-STRIDE : goal.returns-then-text-le-STRIDE
-returns-then-text-le-STRIDE c = past_to_stop _ c.find.ensures.0 c.find.ensures.2
+pub returns-in-Some : goal.returns-in-Some
+returns-in-Some c = found_near _ _ _ _ c.split_at.ensures.front c.split_at.ensures.back c.if-text-le-STRIDE.false _ c.find-2.ensures c.in-Some.is
 
-pub returns-then-near-lt-STRIDE : goal.returns-then-near-lt-STRIDE
-returns-then-near-lt-STRIDE c =
-    let f = c.find-near.ensures in
-    past_to_it _ f.0 (omega (arith, c.if-near-lt-STRIDE.true, c.if-text-le-STRIDE.false)) (f.2 c.if-near-lt-STRIDE.true)
+pub returns-in_err-find : goal.returns-in_err-find
+returns-in_err-find c =
+    c.from_residual.ensures
+    ∙ found_nowhere _ _ _ _ c.split_at.ensures.front c.split_at.ensures.back c.if-text-le-STRIDE.false _ c.find-2.ensures c.in_default.not-Some c.strides_without.ensures _ c.find-3.ensures c.in_err-find.was
 
 pub returns : goal.returns
 returns c =
-    let s = c in
-    past_to_stop _ (past_then _ s.find-near.ensures.0 (past_then _ s.past_strides-far.ensures c.find-2.ensures.0)) c.find-2.ensures.2
+    found_far _ _ _ _ c.split_at.ensures.front c.split_at.ensures.back c.if-text-le-STRIDE.false _ c.find-2.ensures c.in_default.not-Some c.strides_without.ensures _ c.find-3.ensures c.in_ok-find.was

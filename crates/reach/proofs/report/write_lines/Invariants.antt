@@ -1,5 +1,4 @@
 -- `report::write_lines` meets its contract: the lines of the connections, one after another.
-use Rattle.prelude.proofs.Kit.{◌-◌}
 use Rattle.machine.specs.Policy.{connections}
 use Rattle.text.proofs.Pieces.{Listing}
 use Rattle.reach.specs.Report.{line_text, line_room}
@@ -7,7 +6,4 @@ use Rattle.reach.proofs.Room.{line_room_lem}
 use Rattle.reach.proofs.report.write_lines.Given as goal
 
 abbrev pub invariant-loop-connection : goal.invariant-loop-connection
-invariant-loop-connection l = Listing connections line_room (line_text l.urls) (line_room_lem l.urls) l.initial.text 0 l.text l.at l.connection
-
-abbrev pub decreases-loop-connection : goal.decreases-loop-connection
-decreases-loop-connection l = connections - l.connection
+invariant-loop-connection l = Listing connections line_room (line_text l.urls) (line_room_lem l.urls) l.initial.text l.text l.connection

@@ -1,22 +1,14 @@
--- `input::policy_words` meets its contract: what is left to read from a word on makes the whole.
-use Rattle.prelude.proofs.Kit.{arith, rules}
-use Rattle.machine.specs.Policy.{policy_words}
-use Rattle.transcript.proofs.Words.{reading_begins, reading_goes_on, reading_ends}
+-- `input::policy_words` meets its contract: the words before one are read.
+use Rattle.std.proofs.Common.{◌<◌, ◌≢◌, length, arith, get_or-set_other, get_or-set_same, below_more}
+use Rattle.transcript.proofs.Words.{word_there, words_there}
 use Rattle.transcript.proofs.input.policy_words.Goals as goal
-
-pub loop-i-init : goal.loop-i-init
-loop-i-init c = reading_begins policy_words _ _ (search rules)
-
-pub word-requires : goal.word-requires
-word-requires c = omega (arith, c.requires)
-
-pub bounds-words-i : goal.bounds-words-i
-bounds-words-i c = omega arith
 
 pub loop-i-preserved : goal.loop-i-preserved
 loop-i-preserved c =
-    let s = c in
-    reading_goes_on policy_words _ _ s.loop-i.i c.word.result c.loop-i-test.true s.loop-i.invariant c.word.ensures
+    below_more _ _
+    (λ k h. let ne : k ≢ c.loop-i.i = omega arith in rw get_or-set_other (c.loop-i.invariant k h))
+    (let lt : c.loop-i.i < length c.loop-i.word-items = omega arith in
+    rw get_or-set_same (word_there _ _ c.as_chunks.ensures.front (omega (arith, c.requires)) (omega (arith, c.requires)) c.from_be_bytes.ensures))
 
 pub returns : goal.returns
-returns c = reading_ends policy_words _ _ c.loop-i.i (omega arith) c.loop-i.invariant
+returns c = words_there _ c.loop-i-test.array_long (λ k h. c.loop-i.invariant k (omega arith))

@@ -1,38 +1,38 @@
--- `lines::write_request_lines` meets its contract: the lines that are left to write make the whole.
-use Rattle.prelude.proofs.Kit.{◌<◌, arith, ◌∙◌, ap, rules, length, length-drop, drop}
+-- `lines::write_request_lines` meets its contract: the lines of what is left lead to where all lead, and there is room for them.
+use Rattle.prelude.proofs.Kit.{arith, rules, ap, length, length-drop}
 use Rattle.prelude.proofs.Lists.{rest_is}
-use Rattle.records.specs.Answers.{First}
-use Rattle.records.proofs.Numbers.{error_refused}
-use Rattle.transcript.proofs.Requests.{lines_none}
-use Rattle.transcript.proofs.Printing.{printing_begins, request_bytes, request_room, printing_goes_on, printing_ends}
+use Rattle.text.proofs.Writing.{leads_on, leads_end}
+use Rattle.transcript.proofs.Requests.{request_read, request_missing, lines_none, lines_more, request_room}
 use Rattle.transcript.proofs.lines.write_request_lines.Goals as goal
 
-pub loop-request-init : goal.loop-request-init
-loop-request-init c = printing_begins c.requires
+pub write_request_line-requires : goal.write_request_line-requires
+write_request_line-requires c =
+    let is = request_read c.loop-request.rest.now c.in-Ok.ensures in
+    omega (arith, c.loop-request.invariant.room, is.least, is.within)
 
-pub write_request_line-at-requires : goal.write_request_line-at-requires
-write_request_line-at-requires c = request_room c.loop-request.invariant c.in-Ok.ensures
+pub slice_bounds-rest-count : goal.slice_bounds-rest-count
+slice_bounds-rest-count c = (request_read c.loop-request.rest.now c.in-Ok.ensures).within
 
-pub slice_bounds-left-count : goal.slice_bounds-left-count
-slice_bounds-left-count c = (request_bytes c.loop-request.invariant c.in-Ok.ensures).1
-
-pub slice_bounds-left-start : goal.slice_bounds-left-start
-slice_bounds-left-start c = let l = slice_bounds-left-count c in search rules
+pub slice_bounds-rest-start : goal.slice_bounds-rest-start
+slice_bounds-rest-start c = let l = slice_bounds-rest-count c in search rules
 
 pub loop-request-smaller : goal.loop-request-smaller
 loop-request-smaller c =
-    let left = c.loop-request.left.now in
+    let rest = c.loop-request.rest.now in
     let n = c.in-Ok.request.length in
-    let size = request_bytes c.loop-request.invariant c.in-Ok.ensures in
-    let shorter : length (drop n left) < length left = simp length-drop (omega (arith, size.0, size.1)) in
-    rw (rest_is left n) shorter
+    let is = request_read rest c.in-Ok.ensures in
+    omega (arith, is.least, is.within, ap length (rest_is rest n), length-drop n rest)
 
 pub loop-request-preserved : goal.loop-request-preserved
-loop-request-preserved c =
-    rw (rest_is c.loop-request.left.now c.in-Ok.request.length)
-    (printing_goes_on c.loop-request.invariant c.in-Ok.ensures (search rules) (search rules) c.write_request_line-at.ensures)
+loop-request-preserved c = record {
+  room =
+      let r = c.in-Ok.request.fields in
+      let rest = c.loop-request.rest.now in
+      let n = c.in-Ok.request.length in
+      let is = request_read rest c.in-Ok.ensures in
+      omega (arith, is.least, is.within, request_room r.url r.connection r.keys (search rules) (search rules), ap length (rest_is rest n), length-drop n rest);
+  leads = leads_on c.loop-request.invariant.leads (lines_more (request_read _ c.in-Ok.ensures)) c.write_request_line.ensures;
+}
 
 pub returns : goal.returns
-returns c =
-    printing_ends c.loop-request.invariant
-    (lines_none c.loop-request.left.now (λ ok. error_refused c.in_default.field-0 (ap (λ (r : First). r.number) c.in_default.ensures ∙ ok)))
+returns c = leads_end c.loop-request.invariant.leads (lines_none _ (request_missing _ _ c.in_default.ensures))
