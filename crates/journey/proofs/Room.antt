@@ -15,7 +15,7 @@ use Rattle.journeys.specs.declared.error.JourneyError.{JourneyError}
 use Rattle.journeys.specs.declared.error.JourneyError.TheVariants.{PolicyBad, JourneyBad, ConnectionUnknown}
 use Rattle.journeys.specs.declared.failure.Failure.{Failure}
 use Rattle.journeys.specs.Answers.{number_of, halted}
-use Rattle.journeys.specs.Legs.{forbids}
+use Rattle.policy.specs.Forbidden.{forbids}
 use Rattle.journeys.proofs.Stopping.{stop_failing}
 use Rattle.journeys.specs.Journey.{url_at, judged, carries, carrier, journey_refusals, refused, fails_at, of_url_number, stop, stop_at}
 use Rattle.journeys.proofs.Guarantees.{carries_none, none_is_told, fails_where, found_refused, found_told}

@@ -4,16 +4,16 @@ ghost use Rattle.machine.specs.Policy.{url_rows, connections};
 ghost use Rattle.text.specs.Text.{decimal};
 ghost use Rattle.text.specs.Writing.{HasRoom, Writes};
 ghost use Rattle.journeys.specs.Journey.{carries};
-ghost use Rattle.journeys.specs.Legs.{forbids};
+ghost use Rattle.policy.specs.Forbidden.{forbids};
 ghost use Rattle.journeys.specs.Answers.{number_of};
 ghost use Rattle.journey.specs.Report.{head_text, place_text, set_text, owner_text, lack_text, failure_text};
 ghost use Rattle.journey.specs.Report.{none_text, refusal_text, report, line_room, report_room, NoneCarries};
 
 use journeys::error::JourneyError;
 use journeys::failure::Failure;
-use journeys::forbidden::Forbidden;
 use journeys::legs::Journey;
 use labels::Bits;
+use policy::label_refusal::LabelRefusal;
 use policy::words::CONNECTIONS;
 use text::Writer;
 
@@ -52,13 +52,13 @@ fn write_place(text: &mut Writer<'_>, url: u32, nth: u32, count: u32)
 }
 
 // Which set lacks the endpoint.
-fn set_words(forbidden: Forbidden) -> &'static [u8]
+fn set_words(forbidden: LabelRefusal) -> &'static [u8]
     ensures set { result.now ≡ set_text (forbids forbidden).number }
     ensures short { length result.now ≤ 33 }
 {
     match forbidden {
-        Forbidden::Reader(_) => b" is missing among the readers of ",
-        Forbidden::Writer(_) => b" is missing among the writers of ",
+        LabelRefusal::ReadersForbid(_) => b" is missing among the readers of ",
+        LabelRefusal::WritersForbid(_) => b" is missing among the writers of ",
     }
 }
 

@@ -12,37 +12,13 @@ use Rattle.labels.proofs.Below.{all_at}
 use Rattle.machine.specs.Policy.{is_url, upgraded, well_formed, fit_missing_reader, fit_missing_writer, redirect_missing_reader, redirect_missing_writer}
 use Rattle.machine.specs.Machine.{Verdict, missing_reader, missing_writer, readers_forbid, writers_forbid, plain}
 use Rattle.machine.proofs.Upgrading.{upgraded_url}
+use Rattle.policy.specs.declared.label_refusal.LabelRefusal.{LabelRefusal}
+use Rattle.policy.specs.declared.label_refusal.LabelRefusal.TheVariants.{ReadersForbid, WritersForbid}
 use Rattle.policy.specs.Given.{Url}
+use Rattle.policy.specs.Forbidden.{verdict, first_forbidden}
 use Rattle.policy.proofs.Rows.{named_url}
 use Rattle.journeys.specs.Journey.{url_at, judged, takes, most_urls, is_journey}
-use Rattle.journeys.specs.declared.forbidden.Forbidden.{Forbidden}
-use Rattle.journeys.specs.declared.forbidden.Forbidden.TheVariants.{Reader, Writer}
-use Rattle.journeys.specs.Legs.{verdict, permitted, first_forbidden}
 use Rattle.journeys.specs.Given.{Journey}
-
--- ---- the first of two that tells
-
-module _ (reader writer : ℕ) where
-  pub readers_forbid_lem : (reader ≡ none_missing → ⊥) → record { number = readers_forbid; missing = reader } ≡ first_forbidden reader writer
-  unfolding first_of branch
-  readers_forbid_lem ne = rw (ne_eqb reader none_missing ne)
-
-  pub writers_forbid_lem : reader ≡ none_missing → (writer ≡ none_missing → ⊥) → record { number = writers_forbid; missing = writer } ≡ first_forbidden reader writer
-  unfolding first_of branch
-  writers_forbid_lem e ne = rw (eq-eqb reader none_missing e, ne_eqb writer none_missing ne)
-
-  pub nothing_forbids : reader ≡ none_missing → writer ≡ none_missing → plain accepted ≡ first_forbidden reader writer
-  unfolding first_of branch
-  nothing_forbids e f = rw (eq-eqb reader none_missing e, eq-eqb writer none_missing f)
-
-missing_one : (m : ℕ) → true ≡ not (is_none m) → m ≡ none_missing → ⊥
-missing_one m t e = true≢false (t ∙ ap not (eq-eqb m none_missing e))
-
--- as code is told what is missing
-pub permitted_is : (r w : Option ℕ) (m n : ℕ) → Tells r m → Tells w n → permitted r w ≡ first_forbidden m n
-permitted_is (Some e) w m n t u = rw t.0 (readers_forbid_lem m n (missing_one m t.1))
-permitted_is None (Some e) m n t u = rw u.0 (writers_forbid_lem m n (sym t.0) (missing_one n u.1))
-permitted_is None None m n t u = nothing_forbids m n (sym t.0) (sym u.0)
 
 -- ---- a place
 
@@ -57,23 +33,14 @@ module _ (p urls : List ℕ) (c : ℕ) where
   judged_redirect zero ne = absurd (ne refl)
   judged_redirect (suc i) ne = refl
 
-  -- the same of what code is told of the URL that is asked for
-  pub load_permitted : (i u : ℕ) (reader writer : Option ℕ) → i ≡ 0 → u ≡ url_at p urls i
-      → Tells reader (fit_missing_reader p c u) → Tells writer (fit_missing_writer p c u) → permitted reader writer ≡ judged p urls c i
-  load_permitted i u reader writer e f r w = permitted_is reader writer _ _ (rw f at r) (rw f at w) ∙ sym (judged_load i e)
-
-  pub redirect_permitted : (i u : ℕ) (reader writer : Option ℕ) → (i ≡ 0 → ⊥) → u ≡ url_at p urls i
-      → Tells reader (redirect_missing_reader p c u) → Tells writer (redirect_missing_writer p c u) → permitted reader writer ≡ judged p urls c i
-  redirect_permitted i u reader writer ne f r w = permitted_is reader writer _ _ (rw f at r) (rw f at w) ∙ sym (judged_redirect i ne)
-
   -- what code answers tells whether the URL is taken
-  pub told_taken : (i : ℕ) (r : Result (Unit {0}) Forbidden) → verdict r ≡ judged p urls c i → is_ok r ≡ takes p urls c i
+  pub told_taken : (i : ℕ) (r : Result (Unit {0}) LabelRefusal) → verdict r ≡ judged p urls c i → is_ok r ≡ takes p urls c i
   told_taken i r says = told r ∙ ap (λ (v : Verdict). eqb v.number accepted) says
     where
-      told : (r : Result (Unit {0}) Forbidden) → is_ok r ≡ eqb (verdict r).number accepted
+      told : (r : Result (Unit {0}) LabelRefusal) → is_ok r ≡ eqb (verdict r).number accepted
       told (Ok u) = refl
-      told (Err (Reader e)) = refl
-      told (Err (Writer e)) = refl
+      told (Err (ReadersForbid e)) = refl
+      told (Err (WritersForbid e)) = refl
 
 -- ---- the numbers of a journey
 

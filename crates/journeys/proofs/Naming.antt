@@ -9,9 +9,10 @@ use Rattle.machine.specs.Policy.{is_entry, url_readers, url_writers, connection_
 use Rattle.machine.specs.Policy.{fit_missing_reader, fit_missing_writer, reach_missing_writer, first_missing, redirect_missing_reader, redirect_missing_writer}
 use Rattle.machine.specs.Machine.{Verdict}
 use Rattle.policy.specs.Given.{Url}
+use Rattle.policy.specs.Forbidden.{first_forbidden}
+use Rattle.policy.proofs.Forbidden.{readers_forbid_lem, writers_forbid_lem, nothing_forbids}
 use Rattle.journeys.specs.Journey.{url_at, judged, takes, fails_at, of_url_number}
-use Rattle.journeys.specs.Legs.{first_forbidden}
-use Rattle.journeys.proofs.Judging.{readers_forbid_lem, writers_forbid_lem, nothing_forbids, judged_load, judged_redirect, asked_url}
+use Rattle.journeys.proofs.Judging.{judged_load, judged_redirect, asked_url}
 use Rattle.journeys.proofs.Guarantees.{asked_given, fails_where, not_taken_where}
 use Rattle.journeys.specs.Guarantees.{connection_set, asked_for, named_set, NamedSetLacksIt}
 

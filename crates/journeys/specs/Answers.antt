@@ -10,7 +10,7 @@ use Rattle.journeys.specs.declared.error.JourneyError.{JourneyError}
 use Rattle.journeys.specs.declared.error.JourneyError.TheVariants.{PolicyBad, JourneyBad, ConnectionUnknown}
 use Rattle.journeys.specs.declared.failure.Failure.{Failure}
 use Rattle.journeys.specs.Journey.{journey_bad, connection_unknown, refused, told, no_stop, refused_stop}
-use Rattle.journeys.specs.Legs.{forbids}
+use Rattle.policy.specs.Forbidden.{forbids}
 
 abbrev pub number_of : JourneyError → ℕ
 number_of PolicyBad = policy_bad

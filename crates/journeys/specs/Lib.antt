@@ -1,5 +1,4 @@
 pub mod Journey
-pub mod Legs
 pub mod Answers
 pub mod Given
 pub mod Guarantees

@@ -3,16 +3,16 @@ ghost use Rattle.std.specs.Prelude.{◌≡◌, ◌<◌, length, IfOk, is_ok};
 ghost use Rattle.prelude.specs.Refusals.{accepted, first_of};
 ghost use Rattle.machine.specs.Policy.{connections};
 ghost use Rattle.policy.specs.Given.{Url};
+ghost use Rattle.policy.specs.Forbidden.{verdict};
 ghost use Rattle.journeys.specs.Journey.{url_at, is_journey, judged, takes, journey_refusals};
-ghost use Rattle.journeys.specs.Legs.{verdict, permitted};
 ghost use Rattle.journeys.specs.Given.{Journey};
 ghost use Rattle.journeys.specs.Answers.{refusal_of};
 
 use super::MOST_URLS;
 use super::error::JourneyError;
-use super::forbidden::Forbidden;
 use labels::EndpointSet;
 use policy::Policy;
+use policy::label_refusal::LabelRefusal;
 use std::alloc::AllocError;
 
 // One to 16 numbers, each of them of a URL.
@@ -24,17 +24,6 @@ pub fn is_journey<S: EndpointSet>(policy: Policy<'_, S>, urls: &[u8]) -> bool
         return false;
     }
     urls.iter().all(|url| policy.is_url(usize::from(*url)))
-}
-
-// Of what is missing among readers and among writers the first tells.
-fn permit(reader: Option<u32>, writer: Option<u32>) -> Result<(), Forbidden>
-    ensures { verdict result ≡ permitted reader writer }
-{
-    match (reader, writer) {
-        (Some(endpoint), _) => Err(Forbidden::Reader(endpoint)),
-        (None, Some(endpoint)) => Err(Forbidden::Writer(endpoint)),
-        (None, None) => Ok(()),
-    }
 }
 
 // A policy that is well formed, and a journey under it: what 2 and 17 do not refuse, in memory that is lent.
@@ -78,19 +67,15 @@ impl<'a, S: EndpointSet> Journey<'a, S> {
     }
 
     // What labels say at a place of the journey: of a load at the first, and of a redirect at each further one.
-    pub fn judge(self, connection: usize, place: usize) -> Result<(), Forbidden>
+    pub fn judge(self, connection: usize, place: usize) -> Result<(), LabelRefusal>
         requires { (connection < connections) × (place < length self.urls.now) }
         ensures says { verdict result ≡ judged self.entry.policy.words.now self.entry.urls.now connection place }
         ensures taken { is_ok result ≡ takes self.entry.policy.words.now self.entry.urls.now connection place }
     {
         let url = self.url_at(place);
         if place == 0 {
-            let reader = self.policy.fit_missing_reader(connection, url);
-            let writer = self.policy.fit_missing_writer(connection, url);
-            return permit(reader, writer);
+            return self.policy.permit_load(connection, url);
         }
-        let reader = self.policy.redirect_missing_reader(connection, url);
-        let writer = self.policy.redirect_missing_writer(connection, url);
-        permit(reader, writer)
+        self.policy.permit_redirect(connection, url)
     }
 }

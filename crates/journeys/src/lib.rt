@@ -9,7 +9,6 @@ ghost use Rattle.journeys.specs.Answers.{found_by, stopped_by};
 
 pub mod error;
 pub mod failure;
-pub mod forbidden;
 pub mod legs;
 pub mod search;
 pub mod stops;

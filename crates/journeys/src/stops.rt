@@ -2,30 +2,30 @@
 ghost use Rattle.std.specs.Prelude.{◌≡◌, ◌<◌, length, IfSome};
 ghost use Rattle.machine.specs.Policy.{url_rows, connections};
 ghost use Rattle.policy.specs.Given.{Url};
+ghost use Rattle.policy.specs.Forbidden.{forbids};
 ghost use Rattle.journeys.specs.Journey.{of_url_number, stop};
-ghost use Rattle.journeys.specs.Legs.{forbids};
 ghost use Rattle.journeys.specs.Answers.{halted};
 
 use super::failure::Failure;
-use super::forbidden::Forbidden;
 use super::legs::Journey;
 use super::{ACCEPTED, Stop};
 use labels::EndpointSet;
 use policy::NONE_MISSING;
+use policy::label_refusal::LabelRefusal;
 
 impl<'a, S: EndpointSet> Journey<'a, S> {
     // Whether the endpoint that is missing is missing in a set of the URL, and not of the connection.
     #[tactic(auto, unfolding(crate::specs::Journey::of_url_number))]
-    fn url_lacks(self, connection: usize, url: usize, forbidden: Forbidden) -> bool
+    fn url_lacks(self, connection: usize, url: usize, forbidden: LabelRefusal) -> bool
         requires { (connection < connections) × Url self.policy.words.now url }
         ensures { result ≡ of_url_number self.entry.policy.words.now connection url (forbids forbidden) }
     {
         match forbidden {
-            Forbidden::Reader(missing) => {
+            LabelRefusal::ReadersForbid(missing) => {
                 let reader = self.policy.fit_missing_reader(connection, url);
                 missing == reader.unwrap_or(NONE_MISSING)
             }
-            Forbidden::Writer(missing) => {
+            LabelRefusal::WritersForbid(missing) => {
                 let writer = self.policy.fit_missing_writer(connection, url);
                 missing != writer.unwrap_or(NONE_MISSING)
             }

@@ -10,6 +10,9 @@ use Rattle.machine.specs.Session.{free, packed, set_connection, request, send}
 use Rattle.machine.specs.Scripts.{script_at, step_at, step_limit, starting_with, run_from, stopped, run_script}
 use Rattle.machine.specs.Machine.{Event, plain, named, awaited, label_refusals, event_refusals, receive, perform, Fed}
 use Rattle.machine.proofs.ConnectionWords.{kind_packed, origin_packed, handler_packed, url_packed}
+use Rattle.policy.specs.declared.label_refusal.LabelRefusal.{LabelRefusal}
+use Rattle.policy.specs.declared.label_refusal.LabelRefusal.TheVariants.{ReadersForbid, WritersForbid}
+use Rattle.policy.specs.Forbidden.{forbids}
 use Rattle.session.specs.declared.pending.Pending.{Pending}
 use Rattle.session.specs.Kinds.{number_of as number_of_kind}
 use Rattle.session.specs.Pending.{word_of}
@@ -19,7 +22,7 @@ use Rattle.monitor.specs.declared.arrived.Arrived.{Arrived}
 use Rattle.monitor.specs.declared.arrived.Arrived.TheVariants.{DocumentResponse, ScriptResponse, PictureResponse, Redirect}
 use Rattle.monitor.specs.declared.done.Done.{Done}
 use Rattle.monitor.specs.declared.refusal.Refusal.{Refusal}
-use Rattle.monitor.specs.declared.refusal.Refusal.TheVariants.{OutputShort, PolicyBad, ScriptsBad, StateUnsound, Malformed, NameUnknown, NotAwaited, ReadersForbid, WritersForbid}
+use Rattle.monitor.specs.declared.refusal.Refusal.TheVariants.{OutputShort, PolicyBad, ScriptsBad, StateUnsound, Malformed, NameUnknown, NotAwaited, Labels}
 use Rattle.monitor.specs.Answers.{fed, did, done, by_verdict, reaction}
 use Rattle.monitor.specs.Events.{told}
 use Rattle.monitor.specs.Refusals.{number_of, verdict_of}
@@ -35,8 +38,8 @@ some_number (Malformed KeyMapEmpty) = refl
 some_number (Malformed CutOrTooLong) = refl
 some_number NameUnknown = refl
 some_number NotAwaited = refl
-some_number (ReadersForbid endpoint) = refl
-some_number (WritersForbid endpoint) = refl
+some_number (Labels (ReadersForbid endpoint)) = refl
+some_number (Labels (WritersForbid endpoint)) = refl
 
 -- nor has a fault of a record
 pub some_fault : (e : DecodeError) → decode_number e ≡ accepted → ⊥
@@ -57,10 +60,10 @@ module _ (p scripts s out : List ℕ) (e : Event) where
   unfolding first_of branch
   by_labels f g = rw (f, g)
 
-  pub forbidden : named p e ≡ true → awaited s e ≡ true → (x : Refusal) → verdict_of x ≡ first_of (label_refusals p e) (plain accepted)
-      → fed (Err x) s out ≡ reaction p scripts s e out
+  pub forbidden : named p e ≡ true → awaited s e ≡ true → (x : LabelRefusal) → forbids x ≡ first_of (label_refusals p e) (plain accepted)
+      → fed (Err (Labels x)) s out ≡ reaction p scripts s e out
   unfolding reaction by_verdict branch
-  forbidden f g x h = rw (by_labels f g, ← h) (rw (some_number x) refl)
+  forbidden f g x h = rw (by_labels f g, ← h) (rw (some_number (Labels x)) refl)
 
   pub performed : named p e ≡ true → awaited s e ≡ true → plain accepted ≡ first_of (label_refusals p e) (plain accepted)
       → (x : Fed) → x ≡ done (perform p scripts s e) out → x ≡ reaction p scripts s e out

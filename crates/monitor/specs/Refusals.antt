@@ -1,11 +1,11 @@
 -- The refusals of the code by their numbers, and as the definitions have them.
-use Rattle.std.specs.Prelude.{ℕ, Option, Some, None, Result, Ok, Err, unwrap_or}
-use Rattle.prelude.specs.Refusals.{accepted}
+use Rattle.std.specs.Prelude.{ℕ, Option, Some, None, unwrap_or}
 use Rattle.labels.specs.Membership.{none_missing}
 use Rattle.records.specs.Results.{decode_number}
-use Rattle.machine.specs.Machine.{Verdict, plain, output_short, policy_bad, scripts_bad, state_unsound, name_unknown, not_awaited, readers_forbid, writers_forbid}
+use Rattle.machine.specs.Machine.{Verdict, output_short, policy_bad, scripts_bad, state_unsound, name_unknown, not_awaited}
+use Rattle.policy.specs.Forbidden.{forbids}
 use Rattle.monitor.specs.declared.refusal.Refusal.{Refusal}
-use Rattle.monitor.specs.declared.refusal.Refusal.TheVariants.{OutputShort, PolicyBad, ScriptsBad, StateUnsound, Malformed, NameUnknown, NotAwaited, ReadersForbid, WritersForbid}
+use Rattle.monitor.specs.declared.refusal.Refusal.TheVariants.{OutputShort, PolicyBad, ScriptsBad, StateUnsound, Malformed, NameUnknown, NotAwaited, Labels}
 
 abbrev pub number_of : Refusal → ℕ
 number_of OutputShort = output_short
@@ -15,8 +15,7 @@ number_of StateUnsound = state_unsound
 number_of (Malformed error) = decode_number error
 number_of NameUnknown = name_unknown
 number_of NotAwaited = not_awaited
-number_of (ReadersForbid endpoint) = readers_forbid
-number_of (WritersForbid endpoint) = writers_forbid
+number_of (Labels refused) = (forbids refused).number
 
 abbrev pub missing_of : Refusal → Option ℕ
 missing_of OutputShort = None
@@ -26,13 +25,7 @@ missing_of StateUnsound = None
 missing_of (Malformed error) = None
 missing_of NameUnknown = None
 missing_of NotAwaited = None
-missing_of (ReadersForbid endpoint) = Some endpoint
-missing_of (WritersForbid endpoint) = Some endpoint
+missing_of (Labels refused) = Some (forbids refused).missing
 
 abbrev pub verdict_of : Refusal → Verdict
 verdict_of e = record { number = number_of e; missing = unwrap_or (missing_of e) none_missing }
-
--- what a judgement says
-abbrev pub judged : Result (Unit {0}) Refusal → Verdict
-judged (Ok u) = plain accepted
-judged (Err e) = verdict_of e

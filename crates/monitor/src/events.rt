@@ -1,23 +1,23 @@
 // What a load and what an arrival asks and does. The numbers from 6 on are asked here, in their order.
-ghost use Rattle.std.specs.Prelude.{◌≡◌, true, ◌&&◌, List, ℕ, ◌<◌, T, [], ◌∷◌, is_some, IfSome};
-ghost use Rattle.prelude.specs.Refusals.{accepted, first_of};
+ghost use Rattle.std.specs.Prelude.{◌≡◌, true, ◌&&◌, List, ℕ, ◌<◌, T, is_some, IfSome};
 ghost use Rattle.machine.specs.Policy.{connections, is_url, is_connection, redirect_missing_reader, redirect_missing_writer};
 ghost use Rattle.machine.specs.Session.{free, script_count, connection_word, sound, set_connection, send};
 ghost use Rattle.machine.specs.Scripts.{run_script};
-ghost use Rattle.machine.specs.Machine.{Load, carries_names, awaited, of_kind, to_target, receive, plain, forbid, readers_forbid, writers_forbid};
+ghost use Rattle.machine.specs.Machine.{Load, carries_names, awaited, of_kind, to_target, receive};
 ghost use Rattle.policy.specs.Given.{Url};
+ghost use Rattle.policy.specs.Forbidden.{verdict, first_forbidden};
 ghost use Rattle.session.specs.Kinds.{number_of};
 ghost use Rattle.session.specs.Pending.{word_of};
 ghost use Rattle.monitor.specs.Answers.{fed, did, done, reaction};
 ghost use Rattle.monitor.specs.Events.{told, arrival, stored};
 ghost use Rattle.monitor.specs.Given.{Arriving, Names, Holds};
-ghost use Rattle.monitor.specs.Refusals.{judged};
 
 use super::arrived::Arrived;
 use super::done::Done;
-use super::refusal::{Refusal, permit};
+use super::refusal::Refusal;
 use labels::EndpointSet;
 use policy::Policy;
+use policy::label_refusal::LabelRefusal;
 use policy::words::CONNECTIONS;
 use records::Record;
 use scripts::Table;
@@ -49,9 +49,7 @@ pub fn load<S: EndpointSet>(
     if !is_named(policy, url, connection) {
         return Err(Refusal::NameUnknown);
     }
-    let reader = policy.fit_missing_reader(connection, url);
-    let writer = policy.fit_missing_writer(connection, url);
-    permit(reader, writer)?;
+    policy.permit_load(connection, url)?;
     let pending = Pending::bare(Kind::Document, url as u8);
     session.send(connection, pending, out);
     Ok(Done::of(out, 0))
@@ -155,24 +153,18 @@ fn permit_target<S: EndpointSet>(
     policy: Policy<'_, S>,
     connection: usize,
     what: Arrived,
-) -> Result<(), Refusal>
+) -> Result<(), LabelRefusal>
     requires { (connection < connections) × Names policy.words.now what }
-    ensures { judged result
-        ≡ first_of
-        (forbid readers_forbid (to_target (redirect_missing_reader policy.entry.words.now connection) (told what))
-        ∷ forbid writers_forbid (to_target (redirect_missing_writer policy.entry.words.now connection) (told what))
-        ∷ [])
-        (plain accepted) }
+    ensures { verdict result
+        ≡ first_forbidden
+        (to_target (redirect_missing_reader policy.entry.words.now connection) (told what))
+        (to_target (redirect_missing_writer policy.entry.words.now connection) (told what)) }
 {
     match what {
         Arrived::DocumentResponse(_) => Ok(()),
         Arrived::ScriptResponse(_) => Ok(()),
         Arrived::PictureResponse => Ok(()),
-        Arrived::Redirect(target) => {
-            let reader = policy.redirect_missing_reader(connection, target);
-            let writer = policy.redirect_missing_writer(connection, target);
-            permit(reader, writer)
-        }
+        Arrived::Redirect(target) => policy.permit_redirect(connection, target),
     }
 }
 

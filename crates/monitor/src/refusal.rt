@@ -1,14 +1,12 @@
 // Why a record is refused.
-ghost use Rattle.std.specs.Prelude.{◌≡◌, ℕ, [], ◌∷◌};
-ghost use Rattle.labels.specs.Membership.{Tells};
-ghost use Rattle.machine.specs.Machine.{plain, forbid, readers_forbid, writers_forbid};
-ghost use Rattle.prelude.specs.Refusals.{accepted, first_of};
-ghost use Rattle.monitor.specs.Refusals.{number_of, missing_of, judged};
+ghost use Rattle.std.specs.Prelude.{◌≡◌};
+ghost use Rattle.monitor.specs.Refusals.{number_of, missing_of};
 ghost use Rattle.monitor.specs.declared.refusal.Refusal.TheVariants as refusals;
 
+use policy::label_refusal::LabelRefusal;
 use records::DecodeError;
 
-// The refusals, in the order of their tests. Where readers or writers forbid it, the endpoint that is missing.
+// The refusals, in the order of their tests.
 #[derive(Clone, Copy, Debug, PartialEq, Eq)]
 pub enum Refusal {
     OutputShort,
@@ -18,8 +16,7 @@ pub enum Refusal {
     Malformed(DecodeError),
     NameUnknown,
     NotAwaited,
-    ReadersForbid(u32),
-    WritersForbid(u32),
+    Labels(LabelRefusal),
 }
 
 impl Refusal {
@@ -34,17 +31,16 @@ impl Refusal {
             Refusal::Malformed(error) => error.number(),
             Refusal::NameUnknown => 6,
             Refusal::NotAwaited => 7,
-            Refusal::ReadersForbid(_) => 8,
-            Refusal::WritersForbid(_) => 9,
+            Refusal::Labels(refusal) => refusal.number(),
         }
     }
 
-    // The endpoint that is missing.
+    // The endpoint that is missing, where labels forbid it.
     pub fn missing(self) -> Option<u32>
         ensures { result ≡ missing_of self }
     {
         match self {
-            Refusal::ReadersForbid(endpoint) | Refusal::WritersForbid(endpoint) => Some(endpoint),
+            Refusal::Labels(refusal) => Some(refusal.missing()),
             _ => None,
         }
     }
@@ -58,17 +54,10 @@ impl From<DecodeError> for Refusal {
     }
 }
 
-// Refused where a reader is missing, else where a writer is.
-#[tactic(auto, unfolding(prelude::specs::Refusals::first_of, prelude::specs::Choice::branch))]
-pub fn permit(reader: Option<u32>, writer: Option<u32>) -> Result<(), Refusal>
-    ensures { (r w : ℕ) → Tells reader r → Tells writer w → judged result
-        ≡ first_of (forbid readers_forbid r ∷ forbid writers_forbid w ∷ []) (plain accepted) }
-{
-    if let Some(endpoint) = reader {
-        return Err(Refusal::ReadersForbid(endpoint));
+impl From<LabelRefusal> for Refusal {
+    ghost from_gives = { λ refused refusal. refusal ≡ refusals.Labels refused };
+
+    fn from(refused: LabelRefusal) -> Refusal {
+        Refusal::Labels(refused)
     }
-    if let Some(endpoint) = writer {
-        return Err(Refusal::WritersForbid(endpoint));
-    }
-    Ok(())
 }

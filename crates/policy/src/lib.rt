@@ -10,13 +10,16 @@ ghost use Rattle.machine.specs.Policy.{fit_missing_reader, fit_missing_writer, f
 ghost use Rattle.machine.specs.Policy.{reach_missing_writer, redirect_missing_reader, redirect_missing_writer, well_formed};
 ghost use Rattle.machine.specs.Session.{key_map};
 ghost use Rattle.policy.specs.Given.{WellFormed, Url};
+ghost use Rattle.policy.specs.Forbidden.{verdict, first_forbidden};
 
 pub use labels::NONE_MISSING;
 
 mod check;
+pub mod label_refusal;
 pub mod words;
 
 use check::well_formed;
+use label_refusal::{LabelRefusal, permit};
 use labels::EndpointSet;
 use labels::addresses::{event_set, message_set};
 use std::alloc::AllocError;
@@ -216,5 +219,30 @@ impl<'a, S: EndpointSet> Policy<'a, S> {
     {
         let message = self.fit_missing_writer(connection, target);
         message.or(self.reach_missing_writer(connection, target))
+    }
+
+    // What labels forbid of a load, and of a redirect.
+    pub fn permit_load(self, connection: usize, url: usize) -> Result<(), LabelRefusal>
+        requires { (connection < connections) × Url self.words.now url }
+        ensures { verdict result
+            ≡ first_forbidden
+            (fit_missing_reader self.entry.words.now connection url)
+            (fit_missing_writer self.entry.words.now connection url) }
+    {
+        let reader = self.fit_missing_reader(connection, url);
+        let writer = self.fit_missing_writer(connection, url);
+        permit(reader, writer)
+    }
+
+    pub fn permit_redirect(self, connection: usize, target: usize) -> Result<(), LabelRefusal>
+        requires { (connection < connections) × Url self.words.now target }
+        ensures { verdict result
+            ≡ first_forbidden
+            (redirect_missing_reader self.entry.words.now connection target)
+            (redirect_missing_writer self.entry.words.now connection target) }
+    {
+        let reader = self.redirect_missing_reader(connection, target);
+        let writer = self.redirect_missing_writer(connection, target);
+        permit(reader, writer)
     }
 }

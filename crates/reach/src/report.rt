@@ -27,6 +27,7 @@ fn write_lines(text: &mut Writer<'_>, urls: &[u32; CONNECTIONS])
 }
 
 // All that is printed of a table.
+#[tactic(auto, using(text::proofs::Decimals::number_room))]
 pub fn write_report(text: &mut Writer<'_>, table: &ReachTable)
     requires { HasRoom text.old report_room }
     ensures { Writes text.old (report table.now) text.new }

@@ -9,9 +9,10 @@ use Rattle.machine.specs.Policy.{connections, is_url, well_formed, upgraded, fit
 use Rattle.machine.specs.Session.{empty_state}
 use Rattle.machine.specs.Machine.{Verdict, feed}
 use Rattle.machine.proofs.Upgrading.{upgraded_url}
+use Rattle.policy.specs.Forbidden.{first_forbidden}
+use Rattle.policy.proofs.Forbidden.{readers_forbid_lem, writers_forbid_lem, nothing_forbids}
 use Rattle.journeys.specs.Journey.{is_journey}
-use Rattle.journeys.specs.Legs.{first_forbidden}
-use Rattle.journeys.proofs.Judging.{readers_forbid_lem, writers_forbid_lem, nothing_forbids, judged_load, by_names}
+use Rattle.journeys.proofs.Judging.{judged_load, by_names}
 use Rattle.journeys.proofs.Taking.{fed_as_judged}
 use Rattle.reach_table.specs.Reach.{in_table}
 use Rattle.reach_table.specs.Guarantees.{ReachedIsLoaded}

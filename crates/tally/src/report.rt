@@ -31,6 +31,7 @@ fn write_lines(text: &mut Writer<'_>, tally: &Tally)
     requires { HasRoom text.old (url_rows * line_room) }
     ensures { Writes text.old (lines_text (lines tally.now)) text.new }
 {
+    // By place, not by `zip`: a proof knows the items of `enumerate` by their place, and those of a `zip` only by what it has yielded.
     for (url, records) in tally.records.iter().enumerate() {
         write_line_if_any(text, url as u32, *records, tally.cookies[url]);
     }

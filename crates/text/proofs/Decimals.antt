@@ -1,9 +1,8 @@
 -- The digits of a number: one below ten, else one more than a tenth of it has; and how many there can be.
-use Rattle.prelude.proofs.Kit.{refl}
 use Rattle.prelude.proofs.Kit.{ℕ, ◌≤◌, ◌<◌, ◌+◌, suc, ◌^◌, zero, ◌%◌, ◌/◌, zero-lt-suc, le_of_suc-le-suc, not-suc-le-zero, arith, true}
-use Rattle.prelude.proofs.Kit.{Bool, false, cond, List, ◌∷◌, [], ◌++◌, ◌≡◌, sym, ◌∙◌, ap, le-ltb, lt-ltb, ltb, length, length-append}
-use native.Mathlib.Nat.{pow-suc, div-lt_iff_lt-mul}
+use Rattle.prelude.proofs.Kit.{Bool, false, cond, List, ◌∷◌, [], ◌++◌, ◌≡◌, sym, ◌∙◌, refl, ap, le-ltb, lt-ltb, ltb, length, length-append}
 use Rattle.prelude.proofs.Kit.{◌*◌, ◌-◌, map, take, drop, get_or, take_all}
+use native.Mathlib.Nat.{pow-suc, div-lt_iff_lt-mul}
 use Rattle.text.specs.Text.{digit, decimal_within, decimal, line, space, newline}
 
 -- more digits than are enough change nothing

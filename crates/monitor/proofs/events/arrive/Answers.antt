@@ -5,6 +5,7 @@ use Rattle.machine.specs.Policy.{is_url, is_connection}
 use Rattle.machine.specs.Machine.{carries_names, named, awaited, missing_reader, missing_writer, perform}
 use Rattle.machine.specs.Session.{connection_word}
 use Rattle.session.specs.Pending.{word_of}
+use Rattle.monitor.specs.declared.refusal.Refusal.TheVariants.{Labels}
 use Rattle.monitor.specs.Events.{told, arrival}
 use Rattle.monitor.proofs.Awaiting.{two_fail, third_fails, three_pass}
 use Rattle.monitor.proofs.Reacting.{unnamed, unawaited, forbidden, performed}
@@ -54,7 +55,7 @@ returns-in_err-permit_target-clause-fed g c =
     let carries : c.carries_names.result ≡ carries_names p (told a.what) = search rules in
     let waits : awaited s.words.now (arrival a.from (told a.what)) ≡ true = search rules in
     let refused : c.permit_target.result ≡ Err x = search rules in
-    let gives : c.from_residual.result ≡ Err x = search rules in
+    let gives : c.from_residual.result ≡ Err (Labels x) = search rules in
     rw gives
     (forbidden p a.table.bytes.now s.words.now a.out.now.buffer.now (arrival a.from (told a.what))
     (three_pass (is_url p a.from.url) (is_connection a.from.connection) (carries_names p (told a.what)) (sym tested ∙ c.if-not-is_named.false) (sym carries ∙ c.if-not-carries_names.false))

@@ -4,6 +4,7 @@ use Rattle.std.specs.Prelude.{Ok, Err}
 use Rattle.machine.specs.Policy.{fit_missing_reader, fit_missing_writer}
 use Rattle.machine.specs.Machine.{Load, named, awaited, missing_reader, missing_writer, perform}
 use Rattle.session.specs.Kinds.{number_of}
+use Rattle.monitor.specs.declared.refusal.Refusal.TheVariants.{Labels}
 use Rattle.monitor.proofs.Reacting.{unnamed, forbidden, performed, sent_done}
 use Rattle.monitor.proofs.events.load.Goals as goal
 
@@ -15,20 +16,18 @@ returns-then-not-is_named-clause-fed g c scripts =
     unnamed s.policy.words.now scripts s.words.now a.out.now.buffer.now (Load a.url a.connection)
     (sym (rw c.policy-policy.ensures at c.is_named.ensures.0) ∙ c.if-not-is_named.true)
 
-pub returns-in_err-permit-clause-fed : goal.returns-in_err-permit-clause-fed
+pub returns-in_err-permit_load-clause-fed : goal.returns-in_err-permit_load-clause-fed
 unfolding named awaited missing_reader missing_writer
-returns-in_err-permit-clause-fed g c scripts =
+returns-in_err-permit_load-clause-fed g c scripts =
     let a = c.args in
     let s = a.session.now in
     let p = s.policy.words.now in
-    let x = c.in_err-permit.field-0.0 in
-    let refused : c.permit.result ≡ Err x = search rules in
-    let gives : c.from_residual.result ≡ Err x = search rules in
-    let verdict = rw refused at (c.permit.ensures (fit_missing_reader p a.connection a.url) (fit_missing_writer p a.connection a.url)
-    (rw c.policy-policy.ensures at c.fit_missing_reader-reader.ensures) (rw c.policy-policy.ensures at c.fit_missing_writer-writer.ensures)) in
+    let x = c.in_err-permit_load.field-0.0 in
+    let refused : c.permit_load.result ≡ Err x = search rules in
+    let gives : c.from_residual.result ≡ Err (Labels x) = search rules in
     rw gives
     (forbidden p scripts s.words.now a.out.now.buffer.now (Load a.url a.connection)
-    (sym (rw c.policy-policy.ensures at c.is_named.ensures.0) ∙ c.if-not-is_named.false) refl x verdict)
+    (sym (rw c.policy-policy.ensures at c.is_named.ensures.0) ∙ c.if-not-is_named.false) refl x (rw (c.policy-policy.ensures, refused) at c.permit_load.ensures))
 
 pub returns-clause-fed : goal.returns-clause-fed
 unfolding named awaited missing_reader missing_writer perform
@@ -37,12 +36,10 @@ returns-clause-fed g c scripts =
     let s = a.session.now in
     let p = s.policy.words.now in
     let q = c.bare-pending.result in
-    let permitted : c.permit.result ≡ Ok tt = search rules in
-    let quiet = rw permitted at (c.permit.ensures (fit_missing_reader p a.connection a.url) (fit_missing_writer p a.connection a.url)
-    (rw c.policy-policy.ensures at c.fit_missing_reader-reader.ensures) (rw c.policy-policy.ensures at c.fit_missing_writer-writer.ensures)) in
+    let permitted : c.permit_load.result ≡ Ok tt = search rules in
     let sent =
     sent_done p s.words.now a.connection (number_of q.kind) q.origin q.handler q.url a.out.now.buffer.now c.of.result
     c.requires c.of.ensures.bytes c.of.ensures.steps c.send.ensures.words c.send.ensures.written in
     performed p scripts s.words.now a.out.now.buffer.now (Load a.url a.connection)
-    (sym (rw c.policy-policy.ensures at c.is_named.ensures.0) ∙ c.if-not-is_named.false) refl quiet _
+    (sym (rw c.policy-policy.ensures at c.is_named.ensures.0) ∙ c.if-not-is_named.false) refl (rw (c.policy-policy.ensures, permitted) at c.permit_load.ensures) _
     (rw (c.bare-pending.ensures.kind, c.bare-pending.ensures.origin, c.bare-pending.ensures.handler, c.bare-pending.ensures.url) at sent)

@@ -1,13 +1,8 @@
 -- `report::write_report` meets its contract: the number of a policy that is refused, or the lines and the last one.
 use Rattle.prelude.proofs.Kit.{arith}
-use Rattle.text.specs.Text.{newline}
-use Rattle.text.proofs.Decimals.{number_room}
 use Rattle.text.proofs.Writing.{writes_then}
 use Rattle.reach.proofs.Room.{lines_room, refused_report, table_report}
 use Rattle.reach.proofs.report.write_report.Goals as goal
-
-pub write_number-requires : goal.write_number-requires
-write_number-requires c = omega (arith, c.requires, number_room c.args.table.now.number newline)
 
 pub returns-then-table-ne-ACCEPTED : goal.returns-then-table-ne-ACCEPTED
 returns-then-table-ne-ACCEPTED c = rw (refused_report c.args.table.now c.if-table-ne-ACCEPTED.true) c.write_number.ensures

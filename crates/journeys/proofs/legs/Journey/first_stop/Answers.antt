@@ -1,7 +1,7 @@
 -- `Journey::first_stop` meets its contract: the first place that is not taken, where labels forbid the URL, or none.
 use Rattle.std.proofs.Common.{rules, ◌≡◌, Err, is_ok, true, arith, ap, ◌∙◌, sym}
 use Rattle.journeys.specs.Journey.{stop_at}
-use Rattle.journeys.specs.Legs.{forbids}
+use Rattle.policy.specs.Forbidden.{forbids}
 use Rattle.journeys.proofs.Stopping.{stop_is, stops_there, stops_nowhere, taken_nowhere}
 use Rattle.journeys.proofs.legs.Journey.first_stop.Goals as goal
 
