@@ -89,7 +89,7 @@ fn import_lines(rt: &HostRuntime, host: u32, names: &[u8], input: &[u8]) -> io::
 {
     let mut nth = 0;
     for line in Lines::of(input) {
-        nth = nth + 1;
+        nth += 1;
         import_line(rt, host, names, input, line, nth)?;
     }
     Ok(nth)

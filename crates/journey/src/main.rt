@@ -47,7 +47,7 @@ fn read_urls<'a>(rt: &impl Env, places: &'a mut [u8]) -> Option<&'a [u8]> {
             Some(url) => {
                 if let Some(place) = places.get_mut(count) {
                     *place = u8::try_from(url).unwrap_or(NO_URL);
-                    count = count + 1;
+                    count += 1;
                 }
             }
             None => break,

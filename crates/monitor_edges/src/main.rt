@@ -2,7 +2,7 @@
 // The comments at the top of the file stdin say what a directive is.
 #![tactic(auto)]
 
-ghost use Rattle.std.specs.Prelude.{◌+◌, ◌<◌, ◌≤◌, IfOk, length};
+ghost use Rattle.std.specs.Prelude.{◌<◌, ◌≤◌, length};
 
 use monitor::{Answer, OUTPUT_ROOM};
 use policy::words::{NO_PARTNER, PARTNERS_AT, URL_ROWS, WORDS};
@@ -47,43 +47,26 @@ fn print(rt: &HostRuntime, bytes: &[u8]) -> io::Result<()> {
 
 // ---- directives
 
-fn lines(rt: &HostRuntime, text: &[u8], words: &mut [u32]) -> io::Result<()> {
-    let mut start = 0;
-    for i in 0..text.len() {
-        start = line_end(rt, text, start, i, words)?;
+// Runs each line that a newline ends.
+fn lines(rt: &HostRuntime, text: &[u8], words: &mut [u32; END]) -> io::Result<()> {
+    if let Some(last) = text.iter().rposition(|&byte| byte == b'\n') {
+        for text in text[..last].split(|&byte| byte == b'\n') {
+            line(rt, text, words)?;
+        }
     }
     Ok(())
 }
 
-// Runs the line that ends at i, if one does. Answers where the next one starts.
-fn line_end(
-    rt: &HostRuntime,
-    text: &[u8],
-    start: usize,
-    i: usize,
-    words: &mut [u32],
-) -> io::Result<usize>
-    requires start_le_i { start ≤ i }
-    requires i_in_bounds { i < length text.now }
-    ensures { IfOk result (λ next. next ≤ i + 1) }
-{
-    if text[i] != b'\n' {
-        return Ok(start);
-    }
-    line(rt, &text[start..i], words)?;
-    Ok(i + 1)
-}
-
-fn line(rt: &HostRuntime, text: &[u8], words: &mut [u32]) -> io::Result<()> {
-    match at(text, 0) {
-        b'z' => reset(words),
-        b'p' => set(rt, text, words, 0, SCRIPTS)?,
-        b's' => set(rt, text, words, SCRIPTS, STATE)?,
-        b'w' => set(rt, text, words, STATE, LENGTHS)?,
-        b'l' => set(rt, text, words, LENGTHS, END)?,
-        b'r' => feed(rt, text, words, true)?,
-        b't' => feed(rt, text, words, false)?,
-        b'm' => sweep(rt, text, words)?,
+fn line(rt: &HostRuntime, text: &[u8], words: &mut [u32; END]) -> io::Result<()> {
+    match text {
+        [b'z', ..] => reset(words),
+        [b'p', numbers @ ..] => set(rt, numbers, &mut words[..SCRIPTS])?,
+        [b's', numbers @ ..] => set(rt, numbers, &mut words[SCRIPTS..STATE])?,
+        [b'w', numbers @ ..] => set(rt, numbers, &mut words[STATE..LENGTHS])?,
+        [b'l', numbers @ ..] => set(rt, numbers, &mut words[LENGTHS..])?,
+        [b'r', digits @ ..] => feed(rt, text, digits, words, true)?,
+        [b't', digits @ ..] => feed(rt, text, digits, words, false)?,
+        [b'm', digits @ ..] => sweep(rt, text, digits, words)?,
         _ => comment(rt, text)?,
     }
     Ok(())
@@ -94,245 +77,179 @@ fn comment(rt: &HostRuntime, text: &[u8]) -> io::Result<()> {
     print(rt, b"\n")
 }
 
-fn reset(words: &mut [u32]) {
-    for i in 0..words.len() {
-        words[i] = first_word(i);
-    }
-}
-
 // No URL (address 255 in each row) and no partner (255 for each URL), all else 0; the right lengths.
-fn first_word(i: usize) -> u32 {
-    if i < 3 * URL_ROWS {
-        return if i % 3 == 0 { 255 } else { 0 };
+fn reset(words: &mut [u32; END]) {
+    words.fill(0);
+    for row in words[..3 * URL_ROWS].chunks_exact_mut(3) {
+        row[0] = 255;
     }
-    if i < LENGTHS {
-        return if (PARTNERS_AT <= i) & (i < WORDS) {
-            NO_PARTNER
-        } else {
-            0
-        };
-    }
-    match i - LENGTHS {
-        0 => WORDS as u32,
-        1 => TABLE_BYTES as u32,
-        2 => session::words::WORDS as u32,
-        3 => OUTPUT_ROOM as u32,
-        _ => 0xee,
-    }
+    words[PARTNERS_AT..WORDS].fill(NO_PARTNER);
+    words[LENGTHS..].copy_from_slice(&[
+        WORDS as u32,
+        TABLE_BYTES as u32,
+        session::words::WORDS as u32,
+        OUTPUT_ROOM as u32,
+        0xee,
+    ]);
 }
 
-// An index into the words from start to end, and the words that go there and after.
-fn set(rt: &HostRuntime, text: &[u8], words: &mut [u32], start: usize, end: usize) -> io::Result<()>
-    requires { start < 0x1_0000_0000 }
-{
-    let mut place = start + number(text, 1);
-    for i in 1..text.len() {
-        place = set_next(rt, text, i, words, place, end)?;
+// An index into a part of the words, and the words that go there and after.
+fn set(rt: &HostRuntime, text: &[u8], part: &mut [u32]) -> io::Result<()> {
+    let mut numbers = text.split(|&byte| byte == b' ').map(number);
+    let mut place = numbers.next().unwrap_or(0) as usize;
+    for value in numbers {
+        match part.get_mut(place) {
+            Some(word) => {
+                *word = value;
+                place += 1;
+            }
+            None => print(rt, b"out of range\n")?,
+        }
     }
     Ok(())
 }
 
-// Where a number follows the space at i it goes to the place. Answers the next place.
-fn set_next(
-    rt: &HostRuntime,
-    text: &[u8],
-    i: usize,
-    words: &mut [u32],
-    place: usize,
-    end: usize,
-) -> io::Result<usize>
-    requires { i < length text.now }
-{
-    if text[i] != b' ' {
-        return Ok(place);
-    }
-    if end <= place {
-        print(rt, b"out of range\n")?;
-        return Ok(place);
-    }
-    put(words, place, number(text, i + 1) as u32);
-    Ok(place + 1)
+// A hexadecimal number, or its last eight digits.
+fn number(digits: &[u8]) -> u32 {
+    digits
+        .iter()
+        .fold(0, |n, &byte| n << 4 | u32::from(digit(byte)))
 }
 
-// The hexadecimal number from a place to the next space, or its last eight digits.
-fn number(text: &[u8], start: usize) -> usize
-    ensures { result < 0x1_0000_0000 }
-{
-    let mut n = 0;
-    for i in start..text.len() {
-        if text[i] == b' ' {
-            return n;
-        }
-        n = n % 0x1000_0000 * 16 + digit(text, i);
-    }
-    n
-}
-
-fn digit(text: &[u8], i: usize) -> usize
+fn digit(byte: u8) -> u8
     ensures { result < 16 }
 {
-    let c = at(text, i) as usize;
-    if c < 97 { c % 16 } else { (c - 87) % 16 }
-}
-
-fn at(bytes: &[u8], i: usize) -> u8 {
-    if i < bytes.len() { bytes[i] } else { 0 }
-}
-
-fn word(words: &[u32], i: usize) -> u32 {
-    if i < words.len() { words[i] } else { 0 }
-}
-
-fn put(words: &mut [u32], i: usize, value: u32) {
-    if i < words.len() {
-        words[i] = value;
+    if byte < b'a' {
+        byte % 16
+    } else {
+        (byte - 87) % 16
     }
 }
 
 // ---- calls
 
 // Feeds the record, two digits to a byte, and shows the directive and what the call did; the state after is kept, or put back.
-fn feed(rt: &HostRuntime, text: &[u8], words: &mut [u32], kept: bool) -> io::Result<()> {
+fn feed(
+    rt: &HostRuntime,
+    text: &[u8],
+    digits: &[u8],
+    words: &mut [u32; END],
+    kept: bool,
+) -> io::Result<()> {
     let mut scripts = [0u8; 4 * STEP_ROOM];
     set_scripts(&mut scripts, words);
     let mut state = [0u32; STATE_ROOM];
-    set_state(&mut state, words);
+    state.copy_from_slice(&words[STATE..LENGTHS]);
     let mut record = [0u8; RECORD_ROOM];
-    from_hex(&mut record, text);
-    let n = least(text.len() / 2, RECORD_ROOM);
-    let fill = (word(words, LENGTHS + 4) % 256) as u8;
+    let n = from_hex(&mut record, digits);
+    let fill = (words[LENGTHS + 4] % 256) as u8;
     let mut out = [fill; OUTPUT_ROOM + SPARE];
-    let answer = lend(words, &scripts, &mut state, &record[0..n], &mut out);
+    let answer = lend(words, &scripts, &mut state, &record[..n], &mut out);
     print(rt, text)?;
     show(rt, answer, words, &state)?;
     output(rt, answer.bytes as usize, &out, fill)?;
     if kept {
-        keep(words, &state);
+        words[STATE..LENGTHS].copy_from_slice(&state);
     }
     Ok(())
-}
-
-fn keep(words: &mut [u32], state: &[u32]) {
-    for i in 0..state.len() {
-        put(words, STATE + i, state[i]);
-    }
 }
 
 // Calls the monitor with the lengths that are set.
-fn lend(words: &[u32], scripts: &[u8], state: &mut [u32], record: &[u8], out: &mut [u8]) -> Answer {
-    let p = least(word(words, LENGTHS) as usize, words.len());
-    let s = least(word(words, LENGTHS + 1) as usize, scripts.len());
-    let w = least(word(words, LENGTHS + 2) as usize, state.len());
-    let o = least(word(words, LENGTHS + 3) as usize, out.len());
+fn lend(
+    words: &[u32; END],
+    scripts: &[u8],
+    state: &mut [u32],
+    record: &[u8],
+    out: &mut [u8],
+) -> Answer {
+    let policy_long = (words[LENGTHS] as usize).min(words.len());
+    let scripts_long = (words[LENGTHS + 1] as usize).min(scripts.len());
+    let state_long = (words[LENGTHS + 2] as usize).min(state.len());
+    let out_long = (words[LENGTHS + 3] as usize).min(out.len());
     monitor::monitor_feed(
-        &words[0..p],
-        &scripts[0..s],
-        &mut state[0..w],
+        &words[..policy_long],
+        &scripts[..scripts_long],
+        &mut state[..state_long],
         record,
-        &mut out[0..o],
+        &mut out[..out_long],
     )
 }
 
-fn least(a: usize, b: usize) -> usize
-    ensures { result ≤ b }
+// Two digits to a byte, as far as there is room; where the last has one alone, the other is 0.
+fn from_hex(bytes: &mut [u8], digits: &[u8]) -> usize
+    ensures { result ≤ length bytes.old }
 {
-    if a < b { a } else { b }
-}
-
-fn from_hex(bytes: &mut [u8], text: &[u8]) {
-    for i in 0..bytes.len() {
-        bytes[i] = (digit(text, 2 * i + 1) * 16 + digit(text, 2 * i + 2)) as u8;
+    for (byte, pair) in bytes.iter_mut().zip(digits.chunks(2)) {
+        *byte = match pair {
+            [high, low] => digit(*high) * 16 + digit(*low),
+            [high] => digit(*high) * 16,
+            _ => 0,
+        };
     }
+    digits.len().div_ceil(2).min(bytes.len())
 }
 
 // Shows the directive, and feeds its record with each map byte, cut at each length.
-fn sweep(rt: &HostRuntime, text: &[u8], words: &[u32]) -> io::Result<()> {
+fn sweep(rt: &HostRuntime, text: &[u8], digits: &[u8], words: &[u32; END]) -> io::Result<()> {
     comment(rt, text)?;
     let mut record = [0u8; RECORD_ROOM];
-    from_hex(&mut record, text);
-    let n = least(text.len() / 2, RECORD_ROOM);
-    every_map(rt, words, &mut record[0..n])
+    let n = from_hex(&mut record, digits);
+    every_map(rt, words, &mut record[..n])
 }
 
-fn every_map(rt: &HostRuntime, words: &[u32], record: &mut [u8]) -> io::Result<()> {
-    for map in 0..256usize {
-        set_map(record, (map % 256) as u8);
-        every_length(rt, words, record, map as u32)?;
+fn every_map(rt: &HostRuntime, words: &[u32; END], record: &mut [u8]) -> io::Result<()> {
+    for map in 0..=u8::MAX {
+        if let Some(first) = record.first_mut() {
+            *first = map;
+        }
+        every_length(rt, words, record, map)?;
     }
     Ok(())
 }
 
-fn set_map(record: &mut [u8], map: u8) {
-    if record.len() != 0 {
-        record[0] = map;
-    }
-}
-
-fn every_length(rt: &HostRuntime, words: &[u32], record: &[u8], map: u32) -> io::Result<()> {
+// Shows the number of each length where it is another than at the length before.
+fn every_length(rt: &HostRuntime, words: &[u32; END], record: &[u8], map: u8) -> io::Result<()> {
     let mut before = 10;
     for length in 0..=record.len() {
-        let number = number_of(words, &record[0..length]);
-        row(rt, map, length, before, number)?;
+        let number = number_of(words, &record[..length]);
+        if number != before {
+            println!(rt; " {map} {length} {number}")?;
+        }
         before = number;
     }
     Ok(())
 }
 
-// Shows the number of a length where it is another than at the length before.
-fn row(rt: &HostRuntime, map: u32, length: usize, before: u32, number: u32) -> io::Result<()> {
-    if number != before {
-        print_number(rt, map)?;
-        print!(rt; " {length}")?;
-        print_number(rt, number)?;
-        print(rt, b"\n")?;
-    }
-    Ok(())
-}
-
 // The number of a call, of which nothing is kept.
-fn number_of(words: &[u32], record: &[u8]) -> u32 {
+fn number_of(words: &[u32; END], record: &[u8]) -> u32 {
     let mut scripts = [0u8; 4 * STEP_ROOM];
     set_scripts(&mut scripts, words);
     let mut state = [0u32; STATE_ROOM];
-    set_state(&mut state, words);
+    state.copy_from_slice(&words[STATE..LENGTHS]);
     let mut out = [0u8; OUTPUT_ROOM + SPARE];
     lend(words, &scripts, &mut state, record, &mut out).number
 }
 
 // Each step's four bytes, the most significant first.
-fn set_scripts(bytes: &mut [u8], words: &[u32]) {
-    for i in 0..bytes.len() {
-        bytes[i] = ((word(words, SCRIPTS + i / 4) >> (24 - i % 4 * 8)) % 256) as u8;
-    }
-}
-
-fn set_state(state: &mut [u32], words: &[u32]) {
-    for i in 0..state.len() {
-        state[i] = word(words, STATE + i);
+fn set_scripts(bytes: &mut [u8], words: &[u32; END]) {
+    for (step, word) in bytes.chunks_exact_mut(4).zip(&words[SCRIPTS..STATE]) {
+        step.copy_from_slice(&word.to_be_bytes());
     }
 }
 
 // The answer, and the words of the state that changed.
-fn show(rt: &HostRuntime, answer: Answer, words: &[u32], state: &[u32]) -> io::Result<()> {
-    print(rt, b" :")?;
-    print_number(rt, answer.number)?;
-    print_number(rt, answer.bytes)?;
-    print_number(rt, answer.steps)?;
-    print_number(rt, answer.missing)?;
-    print(rt, b" :")?;
-    for i in 0..state.len() {
-        change(rt, i, word(words, STATE + i), state[i])?;
-    }
-    Ok(())
-}
-
-fn print_number(rt: &HostRuntime, n: u32) -> io::Result<()> {
-    print!(rt; " {n}")
-}
-
-fn change(rt: &HostRuntime, i: usize, before: u32, after: u32) -> io::Result<()> {
-    if before != after {
-        print!(rt; " {i:x}={after:x}")?;
+fn show(rt: &HostRuntime, answer: Answer, words: &[u32; END], state: &[u32]) -> io::Result<()> {
+    let Answer {
+        number,
+        bytes,
+        steps,
+        missing,
+    } = answer;
+    print!(rt; " : {number} {bytes} {steps} {missing} :")?;
+    for (i, (before, after)) in words[STATE..].iter().zip(state).enumerate() {
+        if before != after {
+            print!(rt; " {i:x}={after:x}")?;
+        }
     }
     Ok(())
 }
@@ -341,23 +258,14 @@ fn change(rt: &HostRuntime, i: usize, before: u32, after: u32) -> io::Result<()>
 fn output(rt: &HostRuntime, n: usize, out: &[u8], fill: u8) -> io::Result<()> {
     print(rt, b" :")?;
     if out.len() < n {
-        print(rt, b" ?\n")?;
-        return Ok(());
+        return print(rt, b" ?\n");
     }
-    for i in 0..n {
-        print!(rt; " {:02x}", at(out, i))?;
+    let (counted, past) = out.split_at(n);
+    for byte in counted {
+        print!(rt; " {byte:02x}")?;
     }
-    if !all(fill, &out[n..]) {
+    if past.iter().any(|&byte| byte != fill) {
         print(rt, b" !")?;
     }
     print(rt, b"\n")
-}
-
-fn all(byte: u8, bytes: &[u8]) -> bool {
-    for i in 0..bytes.len() {
-        if bytes[i] != byte {
-            return false;
-        }
-    }
-    true
 }

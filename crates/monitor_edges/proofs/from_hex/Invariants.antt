@@ -1,9 +1,0 @@
--- `monitor_edges::from_hex` is safe and ends: its indices stay within what it reads and writes.
-use Rattle.prelude.proofs.Kit.{◌≤◌, ◌-◌, ◌≡◌}
-use Rattle.monitor_edges.proofs.from_hex.Given as goal
-
-abbrev pub invariant-loop-i : goal.invariant-loop-i
-invariant-loop-i l = (l.i ≤ l.i-end) × (l.i-end ≡ lib.ListN.length l.bytes) × (lib.ListN.length l.bytes ≡ lib.ListN.length l.initial.bytes)
-
-abbrev pub decreases-loop-i : goal.decreases-loop-i
-decreases-loop-i l = l.i-end - l.i

@@ -1,9 +1,0 @@
--- `monitor_edges::number` is safe and ends: its indices stay within what it reads and writes.
-use Rattle.prelude.proofs.Kit.{◌<◌, ◌-◌, ◌≡◌}
-use Rattle.monitor_edges.proofs.number.Given as goal
-
-abbrev pub invariant-loop-i : goal.invariant-loop-i
-invariant-loop-i l = (l.i-end ≡ lib.ListN.length l.text) × (l.n < 0x100000000)
-
-abbrev pub decreases-loop-i : goal.decreases-loop-i
-decreases-loop-i l = l.i-end - l.i
