@@ -28,7 +28,8 @@ impl<'a> Script<'a> {
     ghost use Rattle.scripts.specs.Operations.{told};
     ghost use Rattle.scripts.specs.Reached.{reached, after, ran, finished};
 
-    pub(crate) fn new(code: &'a [u8], connection: usize, page: u8) -> Script<'a>
+    // Of any 128 bytes.
+    pub fn new(code: &'a [u8], connection: usize, page: u8) -> Script<'a>
         requires { (length code.now ≡ script_bytes) × (connection < connections) }
         ensures code { result.code.now ≡ code.now }
         ensures connection { result.connection ≡ connection }

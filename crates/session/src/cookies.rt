@@ -2,7 +2,7 @@
 ghost use Rattle.std.specs.Prelude.{◌≡◌, ◌<◌, length};
 ghost use Rattle.labels.specs.Addresses.{hosts};
 ghost use Rattle.machine.specs.Policy.{host_keys};
-ghost use Rattle.machine.specs.Session.{state_words, has, set_cookie};
+ghost use Rattle.machine.specs.Session.{state_words, present, has, set_cookie};
 
 use super::state::Session;
 use super::words::{PRESENCE_AT, cookie_value, presence};
@@ -15,6 +15,13 @@ pub fn has(keys: u32, key: usize) -> bool
     ensures { result ≡ has keys key }
 {
     keys >> key & 1 == 1
+}
+
+pub fn is_present(state: &[u32], host: usize, key: usize) -> bool
+    requires { (length state.now ≡ state_words) × (host < hosts) × (key < host_keys) }
+    ensures { result ≡ present state.now host key }
+{
+    has(presence(state, host), key)
 }
 
 // A host's cookie gets a value, and is present. Bits above the eight keys' are cut off, so that this holds of any state.
@@ -39,7 +46,7 @@ impl<'a, S: EndpointSet> Session<'a, S> {
         requires { (host < hosts) × (key < host_keys) }
         ensures { result ≡ present self.now.words.now host key }
     {
-        has(presence(self.words, host), key)
+        is_present(self.words, host, key)
     }
 
     pub fn cookie_value(&self, host: usize, key: usize) -> u32

@@ -24,7 +24,7 @@ pub struct Output<'a> {
 }
 
 impl<'a> Output<'a> {
-    ghost use Rattle.std.specs.Prelude.{◌≡◌};
+    ghost use Rattle.std.specs.Prelude.{◌≡◌, ◌≤◌, length};
     ghost use Rattle.session.specs.Output.{output, write_next};
 
     // Nothing is written yet.
@@ -34,6 +34,16 @@ impl<'a> Output<'a> {
         ensures at { result.at ≡ 0 }
     {
         Output { buffer, at: 0 }
+    }
+
+    // The bytes before a place are written.
+    pub fn at(buffer: &'a mut [u8], place: usize) -> Output<'a>
+        requires { place ≤ length buffer.old }
+        ensures memory { result.buffer.ghost_name ≡ buffer.entry.ghost_name }
+        ensures buffer { result.buffer.now ≡ buffer.old }
+        ensures at { result.at ≡ place }
+    {
+        Output { buffer, at: place }
     }
 
     // How many bytes are written.

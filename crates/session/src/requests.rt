@@ -9,7 +9,7 @@ ghost use Rattle.machine.specs.Session.{state_words, cookie_value, has, request_
 use super::cookies::has;
 use super::kinds::plain_request;
 use super::output::Output;
-use super::pending::Pending;
+use super::pending::{Fields, Pending};
 use super::state::Session;
 use super::words::{cookie_value, presence, set_connection};
 use labels::EndpointSet;
@@ -91,7 +91,6 @@ impl<'a, S: EndpointSet> Session<'a, S> {
 
     // Opens or moves a connection as its new word says, whatever was pending on it, and writes its request after those that are written. Of any word,
     // that of a kind too that there is not.
-    #[tactic(auto, unfolding(machine::specs::Session::kind_of, machine::specs::Session::handler_of, machine::specs::Session::url_of))]
     pub fn send_word(&mut self, connection: usize, word: u32, out: &mut Output<'_>)
         requires { Url self.old.policy.words.now (url_of word) × (connection < connections) }
         ensures memory { self.new.words.ghost_name ≡ self.old.words.ghost_name }
@@ -103,10 +102,9 @@ impl<'a, S: EndpointSet> Session<'a, S> {
             (request self.old.policy.words.now self.old.words.now connection (kind_of word) (handler_of word) (url_of word))
             (output out.old.at out.old.buffer.now) }
     {
-        let kind = word / 0x100_0000;
-        let handler = (word / 0x100 % 0x100) as u8;
-        let url = (word % 0x100) as u8;
-        out.write_next(self.request(connection, kind, handler, url));
+        let fields = Fields::of(word);
+        let kind = fields.kind;
+        out.write_next(self.request(connection, kind, fields.handler as u8, fields.url as u8));
         set_connection(self.words, connection, word);
     }
 
