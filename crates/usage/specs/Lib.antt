@@ -1,4 +1,3 @@
 pub mod Tally
-pub mod Results
 pub mod Lines
 pub mod Cases

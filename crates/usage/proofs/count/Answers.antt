@@ -1,7 +1,6 @@
 -- `count` meets its contract: what is counted and what is left make the whole, and at each return the tests say what is answered.
 use Rattle.prelude.proofs.Kit.{◌≤◌, ◌<◌, ◌+◌, ◌*◌, arith, true, ◌≡◌, sym, ◌∙◌, ap, rules, length, length-drop, get_or, drop}
 use Rattle.std.specs.Prelude.{Ok}
-use Rattle.std.proofs.lemmas.Result.{err_from_is_err_and}
 use Rattle.prelude.proofs.Lists.{rest_is}
 use Rattle.records.specs.declared.Direction.TheVariants.{Request}
 use Rattle.records.specs.Answers.{First}
@@ -18,42 +17,42 @@ use Rattle.usage.proofs.count.Goals as goal
 
 -- ---- what is known of a request in range
 
-read : (m : Else-not-in_range) → first_as (Ok m.in_ok-first.first) ≡ decoded_first Request m.loop-left.left.now
-read m = m.in_ok-first.ensures
+read : (m : Else-not-in_range) → first_as (Ok m.in-Ok.first) ≡ decoded_first Request m.loop-left.left.now
+read m = m.in-Ok.ensures
 
-ranged : (m : Else-not-in_range) → in_range m.in_ok-first.first.fields ≡ true
+ranged : (m : Else-not-in_range) → in_range m.in-Ok.first.fields ≡ true
 ranged m = sym m.in_range.ensures ∙ m.if-not-in_range.false
 
-url : (m : Else-not-in_range) → m.in_ok-first.first.fields.url < url_rows
+url : (m : Else-not-in_range) → m.in-Ok.first.fields.url < url_rows
 url m = url_next m.loop-left.invariant.counting (read m) (ranged m)
 
-bytes : (m : Else-not-in_range) → (1 ≤ m.in_ok-first.first.length) × (m.in_ok-first.first.length ≤ length m.loop-left.left.now)
+bytes : (m : Else-not-in_range) → (1 ≤ m.in-Ok.first.length) × (m.in-Ok.first.length ≤ length m.loop-left.left.now)
 bytes m = bytes_next m.loop-left.invariant.counting (read m)
 
 small : (m : Else-not-in_range) →
-    (get_or m.loop-left.tally.records m.in_ok-first.first.fields.url 0 + 1 ≤ length m.args.requests.now)
-    × (get_or m.loop-left.tally.cookies m.in_ok-first.first.fields.url 0 + carried m.in_ok-first.first.fields ≤ 8 * length m.args.requests.now)
+    (get_or m.loop-left.tally.records m.in-Ok.first.fields.url 0 + 1 ≤ length m.args.requests.now)
+    × (get_or m.loop-left.tally.cookies m.in-Ok.first.fields.url 0 + carried m.in-Ok.first.fields ≤ 8 * length m.args.requests.now)
     × (m.loop-left.all_records + 1 ≤ length m.args.requests.now)
-    × (m.loop-left.all_cookies + carried m.in_ok-first.first.fields ≤ 8 * length m.args.requests.now)
+    × (m.loop-left.all_cookies + carried m.in-Ok.first.fields ≤ 8 * length m.args.requests.now)
 small m = counts_small m.loop-left.invariant.counting (read m) (ranged m)
 
-its_cookies : (c : After-count_keys-carried) → c.count_keys-carried.result ≡ carried c.in_ok-first.first.fields
-its_cookies c = c.count_keys-carried.ensures.0 ∙ ones_carried c.in_ok-first.first.fields (search rules)
+its_cookies : (c : After-count_keys-carried) → c.count_keys-carried.result ≡ carried c.in-Ok.first.fields
+its_cookies c = c.count_keys-carried.ensures.0 ∙ ones_carried c.in-Ok.first.fields (search rules)
 
 -- ---- the needs
 
 pub loop-left-init : goal.loop-left-init
 loop-left-init c = rw c.nothing-tally.ensures record { none_refused = search rules; counting = counting_begins }
 
-pub returns-in_err-first : goal.returns-in_err-first
-returns-in_err-first c =
-    let p = err_from_is_err_and c.from_residual.result c.from_residual.ensures.1 in
-    let bad = none_next c.loop-left.invariant.counting (search rules) (λ ok. error_refused c.in_err-first.field-0.0 (ap (λ (r : First). r.number) c.in_err-first.ensures ∙ ok)) in
-    rw p.1 (not_good c.args.requests.now c.requires bad)
+pub returns-in_default : goal.returns-in_default
+returns-in_default c =
+    let bad = none_next c.loop-left.invariant.counting (search rules) (λ ok. error_refused c.in_default.field-0 (ap (λ (r : First). r.number) c.in_default.ensures ∙ ok)) in
+    c.nothing.ensures ∙ not_good c.args.requests.now c.requires bad
 
 pub returns-then-not-in_range : goal.returns-then-not-in_range
 returns-then-not-in_range c =
-    not_good c.args.requests.now c.requires (out_of_range c.loop-left.invariant.counting c.in_ok-first.ensures (sym c.in_range.ensures ∙ c.if-not-in_range.true))
+    c.nothing-then-not-in_range.ensures
+    ∙ not_good c.args.requests.now c.requires (out_of_range c.loop-left.invariant.counting c.in-Ok.ensures (sym c.in_range.ensures ∙ c.if-not-in_range.true))
 
 pub overflow_add-tally : goal.overflow_add-tally
 overflow_add-tally c = record { fits = omega (arith, (small (goal.at.overflow_add-tally c).Else-not-in_range).0, c.requires) }
@@ -96,7 +95,7 @@ slice_bounds-left-start-in-loop-left c = let l = slice_bounds-left-count-in-loop
 pub loop-left-smaller : goal.loop-left-smaller
 loop-left-smaller c =
     let left = c.loop-left.left.now in
-    let n = c.in_ok-first.first.length in
+    let n = c.in-Ok.first.length in
     let size = bytes (goal.at.loop-left-smaller c).Else-not-in_range in
     let shorter : length (drop n left) < length left = simp length-drop (omega (arith, size.0, size.1)) in
     rw (rest_is left n) shorter
@@ -108,7 +107,7 @@ loop-left-preserved c =
     record {
       none_refused = c.loop-left.invariant.none_refused;
       counting =
-          rw (rest_is c.loop-left.left.now c.in_ok-first.first.length, its_cookies at.After-count_keys-carried)
+          rw (rest_is c.loop-left.left.now c.in-Ok.first.length, its_cookies at.After-count_keys-carried)
           (counting_goes_on c.loop-left.invariant.counting (read m) (ranged m));
     }
 
