@@ -10,6 +10,11 @@ returns-in-DocumentResponse-clause-did g c =
     document s.policy.words.now a.table.bytes.now s.words.now a.connection a.out.now.buffer.now a.pending (search rules) (search rules) (search rules)
     c.in-DocumentResponse.is c.respond.ensures.did
 
+pub respond-requires-in-ScriptResponse : goal.respond-requires-in-ScriptResponse
+respond-requires-in-ScriptResponse g c =
+    let holds = rw c.in-ScriptResponse.is at c.requires.2 in
+    (c.requires.0, holds.0, holds.1, c.requires.3)
+
 pub returns-in-ScriptResponse-clause-did : goal.returns-in-ScriptResponse-clause-did
 returns-in-ScriptResponse-clause-did g c =
     let a = c.args in
