@@ -100,7 +100,7 @@ pub record Parsed (line name value : List ℕ) : Type 0 where
 
 pub parsed : {line pair front name value : List ℕ} {back : Option (List ℕ)} → pair ≡ pair_of line → front ≡ before equals pair → back ≡ behind equals pair → back ≡ Some value
     → name ≡ trim front → Parsed line name value
-parsed {line} {pair} {value = value} p f b e n =
+parsed {line} {pair} {name = name} {value = value} p f b e n =
     let is = is_behind pair value (sym b ∙ e) in
     record {
       has_equals = ap (has equals) (sym p) ∙ is.0;

@@ -12,6 +12,10 @@ use Rattle.reach_table.specs.Reach.{reaches, reach, total_reach, table, refused,
 
 module _ (p : List ℕ) where
   module _ (n u : ℕ) where
+    pub no_url : is_url p u ≡ false → false ≡ reaches p n u
+    unfolding reaches
+    no_url e = rw e
+
     pub url_reached : is_url p u ≡ true → fits p n u ≡ reaches p n u
     unfolding reaches
     url_reached e = rw e

@@ -34,7 +34,10 @@ fn reaches<S: EndpointSet>(policy: Policy<'_, S>, connection: usize, url: usize)
     requires { connection < connections }
     ensures { result ≡ reaches policy.entry.words.now connection url }
 {
-    policy.is_url(url) && policy.fits(connection, url)
+    if policy.is_url(url) {
+        return policy.fits(connection, url);
+    }
+    false
 }
 
 fn reach<S: EndpointSet>(policy: Policy<'_, S>, connection: usize) -> u32

@@ -1,6 +1,6 @@
 -- `find_stop` meets its contract: the first refusal that applies, or where and why the connection stops.
 use Rattle.std.proofs.Common.{rules, ◌≡◌, Err, sym, ◌∙◌}
-use Rattle.prelude.proofs.Kit.{ap₂}
+use Rattle.prelude.proofs.Kit.{ap₂, arith}
 use Rattle.prelude.proofs.Choices.{is_true}
 use Rattle.journeys.specs.Journey.{stop}
 use Rattle.journeys.proofs.Guarantees.{asked}
@@ -16,6 +16,9 @@ pub returns-then-connection-ge-NO_CONNECTION : goal.returns-then-connection-ge-N
 returns-then-connection-ge-NO_CONNECTION c =
     let (formed, journey) = asked _ _ (sym c.in_ok-journey.ensures.refusal) in
     connection_stops _ _ _ (is_true _ formed) (is_true _ journey) c.if-connection-ge-NO_CONNECTION.true
+
+pub stop-requires : goal.stop-requires
+stop-requires c = omega (arith, c.if-connection-ge-NO_CONNECTION.false)
 
 pub returns : goal.returns
 returns c =
