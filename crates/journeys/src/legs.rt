@@ -33,7 +33,7 @@ pub struct Journey<'a, S: EndpointSet> {
     pub ghost good: { Journey policy.words.now urls.now },
 }
 
-// By hand, since a derive does not go with a ghost field.
+// By hand, since a derive does not go with a ghost field in a generic type.
 impl<'a, S: EndpointSet> Clone for Journey<'a, S> {
     fn clone(&self) -> Result<Self, AllocError> {
         Ok(*self)

@@ -178,7 +178,10 @@ fn receive<S: EndpointSet>(
     what: Arrived,
     out: &mut Output<'_>,
 ) -> Done
-    requires { (connection < connections) × Names session.old.policy.words.now what × Holds session.old.policy.words.now pending what × (out.old.at ≡ 0) }
+    requires { (connection < connections)
+        × Names session.old.policy.words.now what
+        × Holds session.old.policy.words.now pending what
+        × (out.old.at ≡ 0) }
     ensures memory { session.new.words.ghost_name ≡ session.old.words.ghost_name }
     ensures output_memory { out.new.buffer.ghost_name ≡ out.old.buffer.ghost_name }
     ensures policy { session.new.policy.words.now ≡ session.old.policy.words.now }

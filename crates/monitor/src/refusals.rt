@@ -54,7 +54,8 @@ fn react<S: EndpointSet>(
     ensures output_memory { out.new.buffer.ghost_name ≡ out.old.buffer.ghost_name }
     ensures policy { session.new.policy.words.now ≡ session.old.policy.words.now }
     ensures fed { fed result session.new.words.now out.new.buffer.now
-        ≡ reaction session.old.policy.words.now table.entry.bytes.now session.old.words.now (event_of session.old.policy.words.now fields) out.old.buffer.now }
+        ≡ reaction session.old.policy.words.now table.entry.bytes.now session.old.words.now
+        (event_of session.old.policy.words.now fields) out.old.buffer.now }
 {
     let policy = session.policy();
     if plain_map(fields.map) == LOAD {

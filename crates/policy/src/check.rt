@@ -7,9 +7,8 @@ ghost use Rattle.machine.specs.Policy.{empty_row, row_well_formed, connection_we
 ghost use Rattle.policy.specs.Given.{WellFormed};
 
 use super::words::{
-    CONNECTIONS, NO_PARTNER, PARTNERS_AT, URL_ROWS, WORDS, address_word, by_http,
-    connection_readers, https_hosts, https_word, lacks_address, script_readers, url_address,
-    url_partner, url_readers,
+    CONNECTIONS, URL_ROWS, WORDS, address_word, by_http, connection_readers, https_hosts,
+    https_word, lacks_address, script_readers, url_address, url_partner, url_readers,
 };
 use labels::EndpointSet;
 use labels::addresses::{HOSTS, event_set};

@@ -138,7 +138,7 @@ pub fn https_hosts<S: EndpointSet>(policy: &[u32; WORDS]) -> S
     S::from_word(https_word(policy))
 }
 
-// The number that stands in the place of a URL's partner.
+// The partner of a URL, if the policy names one. 255 in its place names none.
 pub fn url_partner(policy: &[u32; WORDS], url: usize) -> Option<usize>
     requires { url < url_rows }
     ensures told { unwrap_or result no_partner ≡ url_partner policy.now url }

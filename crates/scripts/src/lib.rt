@@ -1,4 +1,4 @@
-// The interpreter of scripts (document 01, "Scripts"): it is lent the 128 bytes of one script, the session and the output.
+// The interpreter of scripts: it is lent the 128 bytes of one script, the session and the output, and runs its steps until it ends.
 #![tactic(auto)]
 
 mod operation;

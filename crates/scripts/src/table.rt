@@ -5,7 +5,7 @@ ghost use Rattle.machine.specs.Scripts.{table_bytes};
 use super::script::Script;
 use super::{SCRIPT_BYTES, TABLE_BYTES};
 
-// So many scripts, one after another.
+// The bytes of 16 scripts, one after another.
 #[derive(Clone, Copy)]
 pub struct Table<'a> {
     bytes: &'a [u8],

@@ -1,5 +1,5 @@
--- The kinds of connection as the code has them, by their numbers; and the shapes of an open connection's word (document 01, "The state"),
--- whatever the policy: its kind, and the other fields in their ranges.
+-- The kinds of connection as the code has them, by their numbers; and the shapes of an open connection's word, whatever
+-- the policy: its kind, and the other fields in their ranges.
 use Rattle.std.specs.Prelude.{ℕ, Bool, ◌&&◌, ltb, eqb, ◌==◌, Option, Some, None, if◌then◌else◌}
 use Rattle.machine.specs.Policy.{url_rows}
 use Rattle.machine.specs.Session.{document_kind, script_kind, picture_kind, script_count, bare_fields, kind_of, origin_of, handler_of, url_of}
