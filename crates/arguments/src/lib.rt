@@ -1,8 +1,9 @@
 // What programs are given as arguments, read without a heap.
 #![tactic(auto)]
 
-ghost use Rattle.std.specs.Prelude.{IfOk, IfSome};
-ghost use Rattle.arguments.specs.Numbers.{IsWritten};
+ghost use Rattle.std.specs.Prelude.{◌≡◌, ◌≤◌, IfOk, IfSome, length};
+ghost use Rattle.std.specs.Result.{result_ok};
+ghost use Rattle.arguments.specs.Numbers.{IsWritten, given};
 
 use std::env::{Env, FillError};
 use text::digits::read_number;
@@ -15,12 +16,21 @@ const MOST_DIGITS: usize = 10;
 pub struct NoNumber;
 
 // The number that an argument is, or `None` where there is no such argument.
-pub fn number(rt: &impl Env, nth: usize) -> Result<Option<u32>, NoNumber>
+pub fn number(rt: &HostRuntime, nth: usize) -> Result<Option<u32>, NoNumber>
     ensures { IfOk result (λ given. IfSome given IsWritten) }
 {
     let mut digits = [0u8; MOST_DIGITS];
-    match rt.arg(nth, &mut digits) {
-        Ok(length) => read_number(&digits[..length]).map(Some).ok_or(NoNumber),
+    let filled = rt.arg(nth, &mut digits);
+    read(filled, &digits)
+}
+
+// What a buffer tells that was to be filled with an argument.
+fn read(filled: Result<usize, FillError>, buffer: &[u8]) -> Result<Option<u32>, NoNumber>
+    requires { IfOk filled (λ n. n ≤ length buffer.now) }
+    ensures { result_ok result ≡ given filled buffer.now }
+{
+    match filled {
+        Ok(length) => read_number(&buffer[..length]).map(Some).ok_or(NoNumber),
         Err(FillError::NotPresent) => Ok(None),
         Err(FillError::TooLong) => Err(NoNumber),
     }

@@ -38,7 +38,7 @@ fn main(rt: HostRuntime) -> io::Result<()> {
 }
 
 // Puts each name in its place, and answers the host.
-fn read_arguments(rt: &impl Env, names: &mut [u8]) -> Result<u32, BadUsage> {
+fn read_arguments(rt: &HostRuntime, names: &mut [u8]) -> Result<u32, BadUsage> {
     read_names(rt, names)?;
     match arguments::number(rt, HOST) {
         Ok(Some(host)) => Ok(host),
@@ -47,7 +47,7 @@ fn read_arguments(rt: &impl Env, names: &mut [u8]) -> Result<u32, BadUsage> {
 }
 
 // There are one to eight names, and each fits.
-fn read_names(rt: &impl Env, names: &mut [u8]) -> Result<(), BadUsage> {
+fn read_names(rt: &HostRuntime, names: &mut [u8]) -> Result<(), BadUsage> {
     let mut next = FIRST_NAME;
     for (key, place) in names.chunks_exact_mut(NAME_BYTES).enumerate() {
         match rt.arg(FIRST_NAME + key, place) {
@@ -62,13 +62,20 @@ fn read_names(rt: &impl Env, names: &mut [u8]) -> Result<(), BadUsage> {
     }
 }
 
-fn print_usage(rt: &impl Eprint) -> io::Result<()> {
-    eprintln!(rt; "usage: import HOST NAME.. < LINES")?;
-    eprintln!(rt;
-        "HOST is 0 to 15. One to eight NAMEs, each of at most 16 bytes, are those of the keys from 0 on."
+// A line for standard error, in one write. As bytes, where `eprintln!` makes its text on the stack: two kibibytes more than anything else here takes.
+fn complain(rt: &HostRuntime, line: &[u8]) -> io::Result<()> {
+    rt.stderr().write_all(line)
+}
+
+fn print_usage(rt: &HostRuntime) -> io::Result<()> {
+    complain(rt, b"usage: import HOST NAME.. < LINES\n")?;
+    complain(
+        rt,
+        b"HOST is 0 to 15. One to eight NAMEs, each of at most 16 bytes, are those of the keys from 0 on.\n",
     )?;
-    eprintln!(rt;
-        "A line is what stands after the colon of a Set-Cookie header, or the whole header."
+    complain(
+        rt,
+        b"A line is what stands after the colon of a Set-Cookie header, or the whole header.\n",
     )
 }
 
@@ -76,7 +83,7 @@ fn import_input(rt: &HostRuntime, host: u32, names: &[u8]) -> io::Result<()> {
     let mut input = [0u8; INPUT_ROOM];
     let n = streams::read_full(&mut rt.stdin(), &mut input)?;
     if INPUT_LIMIT < n {
-        return eprintln!(rt; "import: the lines have more than 65,536 bytes");
+        return complain(rt, b"import: the lines have more than 65,536 bytes\n");
     }
     import_lines(rt, host, names, &input[..n])?;
     Ok(())
