@@ -1,5 +1,5 @@
 -- How much room the pieces of a line take at most, and what is printed by what is answered.
-use Rattle.prelude.proofs.Kit.{ℕ, ◌≤◌, ◌+◌, arith, true, Bool, false, cond, List, ◌++◌, ◌≡◌, sym, ◌∙◌, refl, ap, length, length-append, get_or, eqb, ne_eqb}
+use Rattle.prelude.proofs.Kit.{ℕ, ◌≤◌, ◌+◌, arith, true, Bool, false, cond, List, ◌++◌, ◌≡◌, sym, ◌∙◌, refl, ap, ap₂, length, length-append, get_or, eqb, eq-eqb, ne_eqb}
 use Rattle.prelude.specs.Choice.{branch}
 use Rattle.prelude.specs.Refusals.{accepted}
 use Rattle.prelude.proofs.Choices.{is_false}
@@ -8,8 +8,9 @@ use Rattle.text.proofs.Decimals.{decimal_ten, number_room}
 use Rattle.machine.specs.Policy.{connections}
 use Rattle.machine.specs.Machine.{readers_forbid, Verdict}
 use Rattle.std.specs.Prelude.{Option, Some, None, not, T}
-use Rattle.prelude.proofs.Kit.{◌<◌, subst}
+use Rattle.prelude.proofs.Kit.{subst}
 use Rattle.prelude.specs.Refusals.{first_of}
+use Rattle.journeys.specs.declared.Found.{Found}
 use Rattle.journeys.specs.declared.Stop.{Stop}
 use Rattle.journeys.specs.declared.error.JourneyError.{JourneyError}
 use Rattle.journeys.specs.declared.error.JourneyError.TheVariants.{PolicyBad, JourneyBad, ConnectionUnknown}
@@ -17,8 +18,8 @@ use Rattle.journeys.specs.declared.failure.Failure.{Failure}
 use Rattle.journeys.specs.Answers.{number_of, halted}
 use Rattle.policy.specs.Forbidden.{forbids}
 use Rattle.journeys.proofs.Stopping.{stop_failing}
-use Rattle.journeys.specs.Journey.{url_at, judged, carries, carrier, journey_refusals, refused, fails_at, of_url_number, stop, stop_at}
-use Rattle.journeys.proofs.Guarantees.{carries_none, none_is_told, fails_where, found_refused, found_told}
+use Rattle.journeys.specs.Journey.{url_at, judged, carries, journey_refusals, found, fails_at, of_url_number, stop, stop_at}
+use Rattle.journeys.proofs.Guarantees.{carries_none, none_is_told, fails_where, found_refused}
 use Rattle.journey.specs.Report.{labelled, head_text, place_text, set_text, owner_text, lack_text, why_text, failure_text, none_text, refusal_text, found_text, report, NoneCarries, line_room}
 
 -- words and a number
@@ -112,23 +113,30 @@ module _ (p urls : List ℕ) where
 
   -- ---- what is printed
 
-  -- by what the code has found: a refusal, a connection, or none
-  pub refused_text : (e : JourneyError) → number_of e ≡ first_of (journey_refusals p urls) accepted → report p urls ≡ refusal_text (number_of e)
-  unfolding report
-  refused_text e h = ap (found_text p urls) (sym (found_refused p urls e h)) ∙ told e
-    where
-      told : (e : JourneyError) → found_text p urls (refused (number_of e)) ≡ refusal_text (number_of e)
-      told PolicyBad = refl
-      told JourneyBad = refl
-      told ConnectionUnknown = refl
+  module _ (r : Found) where
+    pub report_by : r ≡ found p urls → report p urls ≡ found_text p urls r
+    unfolding report
+    report_by e = ap (found_text p urls) (sym e)
 
-  pub carried_text : (c : ℕ) → accepted ≡ first_of (journey_refusals p urls) accepted → c ≡ carrier p urls → c < connections → report p urls ≡ decimal c ++ ascii "\n"
-  unfolding report
-  carried_text c h e l = ap (found_text p urls) (sym (found_told p urls c h e)) ∙ rw (ne_eqb c connections (λ q. omega (arith, q, l)))
+    pub none_carries : r ≡ found p urls → r.number ≡ accepted → r.connection ≡ connections → NoneCarries p urls
+    none_carries e n k =
+        let (_, each) = (none_is_told p urls).0 (sym e ∙ ap₂ (λ (number connection : ℕ). record { number = number; connection = connection }) n k) in
+        λ c l. is_false (carries p urls c) (carries_none p urls c (each c l))
 
-  pub none_told : accepted ≡ first_of (journey_refusals p urls) accepted → connections ≡ carrier p urls → (report p urls ≡ none_text p urls) × NoneCarries p urls
-  unfolding report
-  none_told h e =
-      let is = found_told p urls connections h e in
-      let (_, each) = (none_is_told p urls).0 (sym is) in
-      (ap (found_text p urls) (sym is), λ c l. is_false (carries p urls c) (carries_none p urls c (each c l)))
+    pub refused_text : (r.number ≡ accepted → ⊥) → found_text p urls r ≡ refusal_text r.number
+    refused_text ne = rw (ne_eqb r.number accepted ne)
+
+    pub none_text_lem : r.number ≡ accepted → r.connection ≡ connections → found_text p urls r ≡ none_text p urls
+    none_text_lem e n = rw (eq-eqb r.number accepted e, eq-eqb r.connection connections n)
+
+    pub found_text_lem : r.number ≡ accepted → (r.connection ≡ connections → ⊥) → found_text p urls r ≡ decimal r.connection ++ ascii "\n"
+    found_text_lem e n = rw (eq-eqb r.number accepted e, ne_eqb r.connection connections n)
+
+    -- what is found with 0 is no journey that is refused
+    pub none_refused : (e : JourneyError) → r ≡ found p urls → r.number ≡ accepted → number_of e ≡ first_of (journey_refusals p urls) accepted → ⊥
+    none_refused e f n h = refuses e (ap (λ (g : Found). g.number) (found_refused p urls e h ∙ sym f) ∙ n)
+      where
+        refuses : (e : JourneyError) → number_of e ≡ accepted → ⊥
+        refuses PolicyBad k = omega (arith, k)
+        refuses JourneyBad k = omega (arith, k)
+        refuses ConnectionUnknown k = omega (arith, k)

@@ -1,7 +1,7 @@
 // Reads a policy from standard input and prints the connection that carries a journey, whose URLs are the arguments: docs/JOURNEY.md.
 #![tactic(auto)]
 
-ghost use Rattle.std.specs.Prelude.{◌≡◌, ◌≤◌, length};
+ghost use Rattle.std.specs.Prelude.{◌≡◌, ◌≤◌, IfSome, length};
 ghost use Rattle.text.specs.Writing.{HasRoom, Writes};
 ghost use Rattle.journey.specs.Report.{report_room, printed};
 
@@ -9,7 +9,6 @@ mod report;
 
 use journeys::MOST_URLS;
 use report::{REPORT_BYTES, write_report};
-use std::env::Env;
 use std::io;
 use text::Writer;
 use transcript::{POLICY_INPUT_ROOM, read_policy};
@@ -40,7 +39,9 @@ fn print_usage(rt: &impl Eprint) -> io::Result<()> {
 }
 
 // The URLs of the arguments, as far as there are places: none where there is no argument, or one is no number.
-fn read_urls<'a>(rt: &impl Env, places: &'a mut [u8]) -> Option<&'a [u8]> {
+fn read_urls<'a>(rt: &HostRuntime, places: &'a mut [u8]) -> Option<&'a [u8]>
+    ensures { IfSome result (λ urls. length urls.now ≤ length places.old) }
+{
     let mut count = 0;
     for nth in FIRST_URL..usize::MAX {
         match arguments::number(rt, nth).ok()? {

@@ -5,13 +5,12 @@ ghost use Rattle.text.specs.Text.{decimal};
 ghost use Rattle.text.specs.Writing.{HasRoom, Writes};
 ghost use Rattle.journeys.specs.Journey.{carries};
 ghost use Rattle.policy.specs.Forbidden.{forbids};
-ghost use Rattle.journeys.specs.Answers.{number_of};
 ghost use Rattle.journey.specs.Report.{head_text, place_text, set_text, owner_text, lack_text, failure_text};
 ghost use Rattle.journey.specs.Report.{none_text, refusal_text, report, line_room, report_room, NoneCarries};
 
-use journeys::error::JourneyError;
 use journeys::failure::Failure;
 use journeys::legs::Journey;
+use journeys::{ACCEPTED, NO_CONNECTION, POLICY_BAD, journey_find};
 use labels::Bits;
 use policy::label_refusal::LabelRefusal;
 use policy::words::CONNECTIONS;
@@ -112,32 +111,31 @@ fn write_none(text: &mut Writer<'_>, journey: Journey<'_, Bits>)
 }
 
 // What is printed of a refusal.
-fn refusal(error: JourneyError) -> &'static [u8]
-    ensures text { result.now ≡ refusal_text (number_of error) }
+fn refusal(number: u32) -> &'static [u8]
+    ensures text { result.now ≡ refusal_text number }
     ensures short { length result.now ≤ 85 }
 {
-    match error {
-        JourneyError::PolicyBad => {
-            b"refused 2: the policy has the wrong length or is not well formed\n"
-        }
-        _ => {
-            b"refused 17: the journey is empty, longer than 16 URLs, or names a URL without a row\n"
-        }
+    if number == POLICY_BAD {
+        b"refused 2: the policy has the wrong length or is not well formed\n"
+    } else {
+        b"refused 17: the journey is empty, longer than 16 URLs, or names a URL without a row\n"
     }
 }
 
-// All that is printed of a policy and a journey.
+// All that is printed of a policy and a journey, by the answer that C is given.
 #[tactic(auto, using(text::proofs::Decimals::number_room))]
 pub fn write_report(text: &mut Writer<'_>, policy: &[u32], urls: &[u8])
     requires { HasRoom text.old report_room }
     ensures { Writes text.old (report policy.now urls.now) text.new }
 {
-    let journey = match Journey::<Bits>::parse(policy, urls) {
-        Ok(journey) => journey,
-        Err(error) => return text.write_bytes(refusal(error)),
-    };
-    match journey.lowest_carrier() {
-        Some(connection) => text.write_number(connection as u32, b'\n'),
-        None => write_none(text, journey),
+    let found = journey_find(policy, urls);
+    if found.number != ACCEPTED {
+        return text.write_bytes(refusal(found.number));
+    }
+    if found.connection != NO_CONNECTION {
+        return text.write_number(found.connection, b'\n');
+    }
+    if let Ok(journey) = Journey::parse(policy, urls) {
+        write_none(text, journey);
     }
 }
