@@ -13,6 +13,14 @@ fn find(text: &[u8], byte: u8) -> Option<usize>
     text.iter().position(|&next| next == byte)
 }
 
+// The same of what strides leave. Not made part of `position`, where the compiler puts what a miss answers into the loop, half as much work again.
+#[inline(never)]
+fn find_in_rest(text: &[u8], byte: u8) -> Option<usize>
+    ensures { result ≡ position (λ next. next == byte) text.now }
+{
+    find(text, byte)
+}
+
 // Where a byte first stands. Most parts are short; in a long one, `contains` lets the processor compare the bytes of a stride at once, which is
 // fifteen times as fast as `find` alone.
 pub fn position(text: &[u8], byte: u8) -> Option<usize>
@@ -26,7 +34,7 @@ pub fn position(text: &[u8], byte: u8) -> Option<usize>
         return Some(at);
     }
     let passed = STRIDE + STRIDE * strides_without(far, byte);
-    Some(passed + find(&text[passed..], byte)?)
+    Some(passed + find_in_rest(&text[passed..], byte)?)
 }
 
 // How many strides of a text come before the first that has a byte.
