@@ -59,6 +59,10 @@ module _ (p : List ℕ) where
     unfolding in_table
     cell_refused e = rw e
 
+    pub cell_nowhere : well_formed p ≡ true → is_connection n ≡ false → false ≡ in_table p n u
+    unfolding in_table
+    cell_nowhere e f = rw (e, f)
+
     pub cell_reached : well_formed p ≡ true → is_connection n ≡ true → reaches p n u ≡ in_table p n u
     unfolding in_table
     cell_reached e f = rw (e, f)
