@@ -5,6 +5,13 @@ use Rattle.journeys.specs.Journey.{judged}
 use Rattle.journeys.proofs.Judging.{judged_load, judged_redirect, told_taken}
 use Rattle.journeys.proofs.legs.Journey.judge.Goals as goal
 
+-- what is asked for is a URL, by name: an edit that asks about another number is refused for the number, and no search gives up
+pub permit_load-requires : goal.permit_load-requires
+permit_load-requires g c = (c.requires.0, c.url_at-url.ensures.there)
+
+pub permit_redirect-requires : goal.permit_redirect-requires
+permit_redirect-requires g c = (c.requires.0, c.url_at-url.ensures.there)
+
 pub returns-then-place-eq0 : goal.returns-then-place-eq0
 returns-then-place-eq0 g c =
     let a = c.args in
