@@ -15,8 +15,19 @@ const MOST_DIGITS: usize = 10;
 #[derive(Clone, Copy, Debug, PartialEq, Eq)]
 pub struct NoNumber;
 
-// The number that an argument is, or `None` where there is no such argument.
-pub fn number(rt: &HostRuntime, nth: usize) -> Result<Option<u32>, NoNumber>
+// The number that an argument is, or `None` where there is no such argument; `NoNumber` where it is anything else than a number. Argument 0 is the
+// program's name.
+pub fn number(rt: &impl Env, nth: usize) -> Result<Option<u32>, NoNumber>
+    ensures { IfOk result (λ given. IfSome given IsWritten) }
+{
+    let mut digits = [0u8; MOST_DIGITS];
+    let filled = rt.arg(nth, &mut digits);
+    read(filled, &digits)
+}
+
+// The same of the host's own arguments. By the bound of `number` a program would rest on the assumed contracts of each method of `Env`; by this it rests
+// on that of `arg` alone.
+pub fn runtime_number(rt: &HostRuntime, nth: usize) -> Result<Option<u32>, NoNumber>
     ensures { IfOk result (λ given. IfSome given IsWritten) }
 {
     let mut digits = [0u8; MOST_DIGITS];
@@ -33,5 +44,62 @@ fn read(filled: Result<usize, FillError>, buffer: &[u8]) -> Result<Option<u32>, 
         Ok(length) => read_number(&buffer[..length]).map(Some).ok_or(NoNumber),
         Err(FillError::NotPresent) => Ok(None),
         Err(FillError::TooLong) => Err(NoNumber),
+    }
+}
+
+#[cfg(test)]
+mod tests {
+    use super::*;
+    use std::test::Fail;
+
+    // Arguments that a test gives.
+    #[derive(Drop)]
+    struct Given<'a> {
+        arguments: &'a [&'a [u8]],
+    }
+
+    impl Env for Given<'_> {
+        fn arg(&self, nth: usize, buffer: &mut [u8]) -> Result<usize, FillError> {
+            let argument = self.arguments.get(nth).ok_or(FillError::NotPresent)?;
+            let place = buffer.get_mut(..argument.len()).ok_or(FillError::TooLong)?;
+            place.copy_from_slice(argument);
+            Ok(argument.len())
+        }
+
+        fn var(&self, _name: &str, _buffer: &mut [u8]) -> Result<usize, FillError> {
+            Err(FillError::NotPresent)
+        }
+
+        fn var_at(&self, _nth: usize, _buffer: &mut [u8]) -> Result<usize, FillError> {
+            Err(FillError::NotPresent)
+        }
+    }
+
+    #[test]
+    fn reads_the_arguments_of_any_environment(rt: HostRuntime) -> Result<(), Fail> {
+        let given = Given {
+            arguments: &[
+                b"program",
+                b"7",
+                b"4294967295",
+                b"4294967296",
+                b"00000000007",
+                b"7a",
+                b"",
+            ],
+        };
+        assert_eq!(rt; number(&given, 1), Ok(Some(7)));
+        assert_eq!(rt; number(&given, 2), Ok(Some(4_294_967_295)));
+        for nth in [0, 3, 4, 5, 6] {
+            assert_eq!(rt; number(&given, nth), Err(NoNumber));
+        }
+        assert_eq!(rt; number(&given, 7), Ok(None));
+        Ok(())
+    }
+
+    #[test]
+    fn reads_the_arguments_of_the_host(rt: HostRuntime) {
+        assert_eq!(rt; number(&rt, usize::MAX), Ok(None));
+        assert_eq!(rt; runtime_number(&rt, usize::MAX), Ok(None));
     }
 }

@@ -40,7 +40,7 @@ fn main(rt: HostRuntime) -> io::Result<()> {
 // Puts each name in its place, and answers the host.
 fn read_arguments(rt: &HostRuntime, names: &mut [u8]) -> Result<u32, BadUsage> {
     read_names(rt, names)?;
-    match arguments::number(rt, HOST) {
+    match arguments::runtime_number(rt, HOST) {
         Ok(Some(host)) => Ok(host),
         _ => Err(BadUsage),
     }

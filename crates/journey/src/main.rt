@@ -44,7 +44,7 @@ fn read_urls<'a>(rt: &HostRuntime, places: &'a mut [u8]) -> Option<&'a [u8]>
 {
     let mut count = 0;
     for nth in FIRST_URL..usize::MAX {
-        match arguments::number(rt, nth).ok()? {
+        match arguments::runtime_number(rt, nth).ok()? {
             Some(url) => {
                 if let Some(place) = places.get_mut(count) {
                     *place = u8::try_from(url).unwrap_or(NO_URL);
