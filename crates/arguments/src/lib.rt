@@ -15,8 +15,8 @@ const MOST_DIGITS: usize = 10;
 #[derive(Clone, Copy, Debug, PartialEq, Eq)]
 pub struct NoNumber;
 
-// The number that an argument is, or `None` where there is no such argument; `NoNumber` where it is anything else than a number. Argument 0 is the
-// program's name.
+// The number that an argument is, of one to ten digits and at most 4,294,967,295: `None` where there is no such argument, `NoNumber` where it is
+// anything else. Argument 0 is the program's name.
 pub fn number(rt: &impl Env, nth: usize) -> Result<Option<u32>, NoNumber>
     ensures { IfOk result (λ given. IfSome given IsWritten) }
 {
@@ -25,8 +25,8 @@ pub fn number(rt: &impl Env, nth: usize) -> Result<Option<u32>, NoNumber>
     read(filled, &digits)
 }
 
-// The same of the host's own arguments. By the bound of `number` a program would rest on the assumed contracts of each method of `Env`; by this it rests
-// on that of `arg` alone.
+// The same of the arguments that the host's runtime gives. By the bound of `number` a program would rest on what is assumed of each method of `Env`; by
+// this it rests on what is assumed of `arg` alone.
 pub fn runtime_number(rt: &HostRuntime, nth: usize) -> Result<Option<u32>, NoNumber>
     ensures { IfOk result (λ given. IfSome given IsWritten) }
 {
@@ -50,7 +50,6 @@ fn read(filled: Result<usize, FillError>, buffer: &[u8]) -> Result<Option<u32>, 
 #[cfg(test)]
 mod tests {
     use super::*;
-    use std::test::Fail;
 
     // Arguments that a test gives.
     #[derive(Drop)]
@@ -76,11 +75,11 @@ mod tests {
     }
 
     #[test]
-    fn reads_the_arguments_of_any_environment(rt: HostRuntime) -> Result<(), Fail> {
+    fn reads_numbers_of_any_environment(rt: HostRuntime) {
         let given = Given {
             arguments: &[
-                b"program",
-                b"7",
+                b"0",
+                b"07",
                 b"4294967295",
                 b"4294967296",
                 b"00000000007",
@@ -88,17 +87,20 @@ mod tests {
                 b"",
             ],
         };
+        assert_eq!(rt; number(&given, 0), Ok(Some(0)));
         assert_eq!(rt; number(&given, 1), Ok(Some(7)));
         assert_eq!(rt; number(&given, 2), Ok(Some(4_294_967_295)));
-        for nth in [0, 3, 4, 5, 6] {
+        for nth in 3..7 {
             assert_eq!(rt; number(&given, nth), Err(NoNumber));
         }
         assert_eq!(rt; number(&given, 7), Ok(None));
-        Ok(())
     }
 
+    // The name of the program that runs the tests is no number.
     #[test]
     fn reads_the_arguments_of_the_host(rt: HostRuntime) {
+        assert_eq!(rt; number(&rt, 0), Err(NoNumber));
+        assert_eq!(rt; runtime_number(&rt, 0), Err(NoNumber));
         assert_eq!(rt; number(&rt, usize::MAX), Ok(None));
         assert_eq!(rt; runtime_number(&rt, usize::MAX), Ok(None));
     }
