@@ -21,12 +21,11 @@ pub fn number(rt: &impl Env, nth: usize) -> Result<Option<u32>, NoNumber>
     ensures { IfOk result (λ given. IfSome given IsWritten) }
 {
     let mut digits = [0u8; MOST_DIGITS];
-    let filled = rt.arg(nth, &mut digits);
-    read(filled, &digits)
+    read(rt.arg(nth, &mut digits), &digits)
 }
 
-// The same of the arguments that the host's runtime gives. By the bound of `number` a program would rest on what is assumed of each method of `Env`; by
-// this it rests on what is assumed of `arg` alone.
+// The same of the arguments that the host's runtime gives. By the bound of `number` a program would rest on what is assumed of each method of `Env`;
+// by this it rests on what is assumed of `arg` alone.
 pub fn runtime_number(rt: &HostRuntime, nth: usize) -> Result<Option<u32>, NoNumber>
     ensures { IfOk result (λ given. IfSome given IsWritten) }
 {
@@ -90,7 +89,7 @@ mod tests {
         assert_eq!(rt; number(&given, 0), Ok(Some(0)));
         assert_eq!(rt; number(&given, 1), Ok(Some(7)));
         assert_eq!(rt; number(&given, 2), Ok(Some(4_294_967_295)));
-        for nth in 3..7 {
+        for nth in [3, 4, 5, 6] {
             assert_eq!(rt; number(&given, nth), Err(NoNumber));
         }
         assert_eq!(rt; number(&given, 7), Ok(None));
